@@ -1,0 +1,59 @@
+use crate::instr::Instr;
+use crate::name::Name;
+use crate::types::{FuncType, Limits, ValType};
+use sqlite_items::Items;
+
+/// A module, with a list for each kind of its sections (Core Specification 1.0, 2.5).
+/// Functions and their code are one list. Functions are numbered imports first.
+#[derive(Debug, Drop)]
+pub struct Module {
+    pub types: Items<FuncType>,
+    pub imports: Items<Import>,
+    pub funcs: Items<Func>,
+    pub memories: Items<Limits>,
+    pub exports: Items<Export>,
+    pub segments: Items<Segment>,
+}
+
+/// What a module asks of its host, by the names of a module and of a thing in it (2.5.11).
+#[derive(Debug, Drop)]
+pub struct Import {
+    pub module: Name,
+    pub name: Name,
+    pub desc: ImportDesc,
+}
+
+/// The kind of an import: a function, with the number of its type.
+#[derive(Clone, Copy, Debug, PartialEq, Eq)]
+pub enum ImportDesc {
+    Func(u32),
+}
+
+/// A function: the number of its type, its locals behind its parameters, and its body (2.5.3).
+#[derive(Debug, Drop)]
+pub struct Func {
+    pub ty: u32,
+    pub locals: Items<ValType>,
+    pub body: Items<Instr>,
+}
+
+/// What a module shows under a name (2.5.10).
+#[derive(Debug, Drop)]
+pub struct Export {
+    pub name: Name,
+    pub desc: ExportDesc,
+}
+
+/// The kind of an export, with its number.
+#[derive(Clone, Copy, Debug, PartialEq, Eq)]
+pub enum ExportDesc {
+    Func(u32),
+}
+
+/// Bytes that a memory begins with, at a place that a constant expression gives (2.5.8).
+#[derive(Debug, Drop)]
+pub struct Segment {
+    pub memory: u32,
+    pub offset: Items<Instr>,
+    pub bytes: Items<u8>,
+}

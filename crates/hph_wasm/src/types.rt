@@ -1,0 +1,28 @@
+use sqlite_items::Items;
+
+/// The type of a value (Core Specification 1.0, 2.3.1), without floats.
+#[derive(Clone, Copy, Debug, PartialEq, Eq)]
+pub enum ValType {
+    I32,
+    I64,
+}
+
+/// What a block gives: nothing, or one value (2.3.2).
+#[derive(Clone, Copy, Debug, PartialEq, Eq)]
+pub struct BlockType {
+    pub result: Option<ValType>,
+}
+
+/// The types that a function takes and gives, the first one first (2.3.3).
+#[derive(Debug, Drop)]
+pub struct FuncType {
+    pub params: Items<ValType>,
+    pub results: Items<ValType>,
+}
+
+/// The least and the greatest size of a memory, in pages of 65536 bytes (2.3.4, 2.3.5).
+#[derive(Clone, Copy, Debug, PartialEq, Eq)]
+pub struct Limits {
+    pub min: u32,
+    pub max: Option<u32>,
+}
