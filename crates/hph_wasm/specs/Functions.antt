@@ -1,0 +1,35 @@
+-- The functions of a module by number: those of its imports first (Core Specification 1.0, 2.5.1).
+use Rattle.std.specs.Prelude.{ℕ, List, [], ◌∷◌, ◌++◌, map, Option, slice_get, option_and_then}
+use Rattle.hph_wasm.specs.declared.types.FuncType.{FuncType}
+use Rattle.hph_wasm.specs.declared.module.ImportDesc.{ImportDesc}
+use Rattle.hph_wasm.specs.declared.module.ImportDesc.TheVariants as desc
+use Rattle.hph_wasm.specs.declared.module.Import.{Import}
+use Rattle.hph_wasm.specs.declared.module.Func.{Func}
+use Rattle.hph_wasm.specs.declared.module.Module.{Module}
+
+-- A function of the host with the number of its type, or one of the module's own (4.2.6).
+pub data Function : Type 0 where
+  Imported : (import : Import) → (ty : ℕ) → Function
+  Defined : (func : Func) → Function
+
+-- Imports of another kind have numbers of their own.
+abbrev pub with_import : Import → ImportDesc → List Function → List Function
+with_import import (desc.Func ty) rest = Imported import ty ∷ rest
+
+-- The functions among imports, in their order.
+abbrev pub imported_functions : List Import → List Function
+imported_functions [] = []
+imported_functions (import ∷ imports) = with_import import import.desc (imported_functions imports)
+
+-- All functions, in the order of their numbers.
+abbrev pub functions : Module → List Function
+functions m = imported_functions m.imports ++ map Defined m.funcs
+
+-- The number of a function's type.
+abbrev pub type_number : Function → ℕ
+type_number (Imported import ty) = ty
+type_number (Defined func) = func.ty
+
+-- The type of the function with a number, if there are both.
+abbrev pub func_type : Module → ℕ → Option FuncType
+func_type m f = option_and_then (λ function. slice_get m.types (type_number function)) (slice_get (functions m) f)
