@@ -1,0 +1,12 @@
+pub mod ShortestNumbers
+pub mod SpelledNumbers
+pub mod Vectors
+pub mod Blocks
+pub mod Runs
+pub mod Nonempty
+pub mod ShortSections
+pub mod SpelledParts
+pub mod SpelledCode
+pub mod SpelledSections
+pub mod SpelledModule
+mod Examples

@@ -1,0 +1,94 @@
+-- The bytes that are written of a module spell it.
+use Rattle.std.proofs.Common.{◌<◌, ℕ, ◌^◌, List, [], ◌∷◌, ◌++◌, length, map, refl, sym, subst, arith}
+use Rattle.std.proofs.lemmas.List.{append-nil, length-map}
+use Rattle.std.specs.List.{AllByRecursion}
+use Rattle.hph_wasm.specs.Leb128.{Unsigned, u32_bytes}
+use Rattle.hph_wasm.specs.Grammar.{FunctionType, Imported, MemoryType, Exported, Code, Data, NoSections, FromData, FromCode, FromExports, FromMemories, FromFunctions, FromImports, FromTypes, type_of_func, code_of_func, header, SpellsModule}
+use Rattle.hph_wasm.specs.Spelling.{func_type_bytes, import_bytes, type_index_bytes, limits_bytes, export_bytes, code_bytes, segment_bytes, section_bytes, spelling, IsWritable}
+use Rattle.hph_wasm.specs.declared.module.Func.{Func}
+use Rattle.hph_wasm.specs.declared.module.Module.{Module}
+use Rattle.hph_wenc.specs.Fits.{ImportFits, LimitsFit, ExportFits, CodeFits, SegmentFits}
+use Rattle.hph_wenc.proofs.SpelledNumbers.{u32_spelled}
+use Rattle.hph_wenc.proofs.SpelledParts.{both, Spelled, all_fit, func_type_spelled, import_spelled, limits_spelled, export_spelled}
+use Rattle.hph_wenc.proofs.SpelledCode.{pair_bytes, PairFits, code_spelled, segment_spelled}
+use Rattle.hph_wenc.proofs.SpelledSections.{Written, written_end, written_section, without_custom-above, custom_named}
+use Rattle.hph_wenc.proofs.ShortSections.{IsShort, HasShortSections, sections_short, section_bytes-map}
+
+-- what is asked of each section's things
+pub record ModuleFits (m : Module) : Type 0 where
+  pub imports : AllByRecursion ImportFits m.imports
+  pub functions : AllByRecursion (λ ty. ty < 2 ^ 32) (map type_of_func m.funcs)
+  pub memories : AllByRecursion LimitsFit m.memories
+  pub exports : AllByRecursion ExportFits m.exports
+  pub codes : AllByRecursion CodeFits m.funcs
+  pub segments : AllByRecursion SegmentFits m.segments
+
+-- few locals and bodies that fit are codes that fit
+pairs_fit : (funcs : List Func) → AllByRecursion (λ f. length f.locals < 2 ^ 32) funcs → AllByRecursion CodeFits funcs → AllByRecursion PairFits (map code_of_func funcs)
+pairs_fit [] few all = tt
+pairs_fit (f ∷ funcs) few all = ((few.0, all.0), pairs_fit funcs few.1 all.1)
+
+-- the bytes of a type's number spell it
+type_index_spelled : Spelled (Unsigned 32) u32_bytes (λ ty. ty < 2 ^ 32)
+type_index_spelled ty fits _ = u32_spelled ty fits
+
+-- a section of things that are made of others is as short
+IsShort-map : {X Y : Type 0} (id : ℕ) (f : Y → List ℕ) (g : X → Y) (xs : List X) → IsShort id (λ x. f (g x)) xs → IsShort id f (map g xs)
+IsShort-map id f g xs short = record { few = rw length-map short.few; short = rw section_bytes-map short.short }
+
+-- the bytes from a section on
+abbrev data_on : Module → List ℕ
+data_on m = section_bytes 11 segment_bytes m.segments
+
+-- from the code section on
+abbrev code_on : Module → List ℕ
+code_on m = section_bytes 10 code_bytes m.funcs ++ data_on m
+
+-- from the memory section on
+abbrev memories_on : Module → List ℕ
+memories_on m = section_bytes 5 limits_bytes m.memories ++ (section_bytes 7 export_bytes m.exports ++ code_on m)
+
+-- from the function section on
+abbrev functions_on : Module → List ℕ
+functions_on m = section_bytes 3 type_index_bytes m.funcs ++ memories_on m
+
+-- the data section is written
+data_written : (m : Module) → ModuleFits m → HasShortSections m → Written 10 (FromData m) (data_on m)
+data_written m fits short =
+    subst (Written 10 (FromData m)) (append-nil (data_on m))
+    (written_section 10 11 Data segment_bytes SegmentFits NoSections m.segments [] segment_spelled fits.segments short.segments (omega arith) (written_end 11))
+
+-- the code section is, and those behind it
+code_written : (m : Module) → IsWritable m → ModuleFits m → HasShortSections m → Written 7 (FromCode m) (code_on m)
+code_written m writable fits short =
+    subst (λ bytes. Written 7 (FromCode m) (bytes ++ data_on m)) (section_bytes-map 10 pair_bytes code_of_func m.funcs)
+    (written_section 7 10 Code pair_bytes PairFits (FromData m) (map code_of_func m.funcs) (data_on m) code_spelled (pairs_fit m.funcs writable.few_locals fits.codes)
+    (IsShort-map 10 pair_bytes code_of_func m.funcs short.codes) (omega arith) (data_written m fits short))
+
+-- the memory and export sections are, and those behind them
+memories_written : (m : Module) → IsWritable m → ModuleFits m → HasShortSections m → Written 3 (FromMemories m) (memories_on m)
+memories_written m writable fits short =
+    written_section 3 5 MemoryType limits_bytes LimitsFit (FromExports m) m.memories _ limits_spelled fits.memories short.memories (omega arith)
+    (written_section 5 7 Exported export_bytes ExportFits (FromCode m) m.exports (code_on m) export_spelled fits.exports short.exports (omega arith) (code_written m writable fits short))
+
+-- the function section is, and those behind it
+functions_written : (m : Module) → IsWritable m → ModuleFits m → HasShortSections m → Written 2 (FromFunctions m) (functions_on m)
+functions_written m writable fits short =
+    subst (λ bytes. Written 2 (FromFunctions m) (bytes ++ memories_on m)) (section_bytes-map 3 u32_bytes type_of_func m.funcs)
+    (written_section 2 3 (Unsigned 32) u32_bytes (λ ty. ty < 2 ^ 32) (FromMemories m) (map type_of_func m.funcs) (memories_on m) type_index_spelled fits.functions
+    (IsShort-map 3 u32_bytes type_of_func m.funcs short.functions) (omega arith) (memories_written m writable fits short))
+
+-- a module that can be written and fits is spelled by its bytes
+pub module_spelled : (m : Module) → IsWritable m → ModuleFits m → SpellsModule (spelling m) m
+unfolding spelling
+module_spelled m writable fits =
+    let short = sections_short m writable.short in
+    let written : Written 0 (FromTypes m) _ =
+    written_section 0 1 FunctionType func_type_bytes (λ _. Unit {0}) (FromImports m) m.types _ func_type_spelled (all_fit m.types) short.types (omega arith)
+    (written_section 1 2 Imported import_bytes ImportFits (FromFunctions m) m.imports _ import_spelled fits.imports short.imports (omega arith) (functions_written m writable fits short)) in
+    both header _ refl (record {
+      sections = written.sections;
+      stand = written.stand;
+      named = custom_named written.sections written.above;
+      inside = subst (FromTypes m) (sym (without_custom-above written.sections written.above)) written.inside;
+    })

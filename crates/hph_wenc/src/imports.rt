@@ -1,0 +1,34 @@
+//! The import section (Core Specification 1.0, 5.5.5).
+ghost use Rattle.std.specs.Prelude.{◌≡◌, ◌<◌, ◌^◌, ◌++◌, length, OnOk};
+ghost use Rattle.hph_wasm.specs.Spelling.{import_bytes, import_desc_bytes};
+ghost use Rattle.hph_wenc.specs.Fits.{ImportFits, ImportDescFits};
+
+use crate::byte_codes::FUNC;
+use crate::leb128::put_u32;
+use crate::put::{Put, put_bytes};
+use hph_wasm::{Import, ImportDesc};
+use std::alloc::AllocError;
+
+impl Put for Import {
+    ghost spelling = { import_bytes };
+
+    ghost fits = { ImportFits };
+
+    fn put(&self, out: &mut Vec<u8>) -> Result<(), AllocError> {
+        put_bytes(out, self.module.as_str().as_bytes())?;
+        put_bytes(out, self.name.as_str().as_bytes())?;
+        put_import_desc(out, self.desc)
+    }
+}
+
+fn put_import_desc(out: &mut Vec<u8>, desc: ImportDesc) -> Result<(), AllocError>
+    ensures put { OnOk result (out.new.items ≡ out.old.items ++ import_desc_bytes desc) }
+    ensures fit { ImportDescFits desc }
+{
+    match desc {
+        ImportDesc::Func(ty) => {
+            out.push(FUNC)?;
+            put_u32(out, ty)
+        }
+    }
+}

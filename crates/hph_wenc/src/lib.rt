@@ -1,0 +1,25 @@
+//! Writes WebAssembly modules as bytes, in the binary format of the Core Specification 1.0 (section 5).
+//!
+//! Its one contract is that of `write`: the bytes are the module's `spelling`, as the library of modules defines it,
+//! and they are one of those that its grammar, `SpellsModule`, allows. Two laws say that the numbers are the shortest.
+//! Inside, what adds bytes to an `out` may have added some of them where it ends in an error.
+#![tactic(auto)]
+
+mod byte_codes;
+mod code;
+mod data;
+mod exports;
+mod functions;
+mod imports;
+mod instructions;
+mod leb128;
+mod locals;
+mod memories;
+mod module;
+mod put;
+#[cfg(test)]
+mod tests;
+mod types;
+
+pub use leb128::{i32_bytes_are_shortest, u32_bytes_are_shortest};
+pub use module::write;
