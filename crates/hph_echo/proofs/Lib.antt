@@ -1,0 +1,9 @@
+mod ByteLaws
+mod IntegerLaws
+mod PieceLaws
+mod ProgramLaws
+mod FileLaws
+mod TextLaws
+mod ReadLaws
+mod EveryFile
+mod Examples
