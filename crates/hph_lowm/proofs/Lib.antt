@@ -1,0 +1,4 @@
+pub mod SpellingLengths
+pub mod LayoutIsWritable
+pub mod LayoutIsValid
+pub mod LayoutRuns
