@@ -1,0 +1,3 @@
+pub mod PositionalWords
+pub mod AfterTheLine
+pub mod CausesExclude
