@@ -1,0 +1,5 @@
+<?php
+echo 'Hello, ', 'world!', '
+';
+echo 6, ' times ', 7, ' is ', 42, '
+';
