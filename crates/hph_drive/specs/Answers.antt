@@ -1,4 +1,5 @@
--- What each answer says, and what it leaves. This project's own. The cases of `SaysOfFile` exclude one another, so each answer comes exactly where its case holds.
+-- What each answer says, and what it leaves. This project's own.
+-- The cases of `SaysOfFile` exclude one another, so each answer comes exactly where its case holds.
 use Rattle.std.specs.Prelude.{◌≡◌, ◌<◌, ◌≤◌, ◌⊎◌, ◌^◌, ℕ, List, length, Option, Some, None}
 use Rattle.hph_src.specs.Sink.{grown_by, GrowsByPrefix}
 use Rattle.hph_echo.specs.EchoFile.{IsEchoFile, IsFirstFault}
@@ -18,10 +19,11 @@ file_limit = 2 ^ 20
 abbrev pub IsSource : Option (List ℕ) → List ℕ → Type 0
 IsSource file source = (file ≡ Some source) × (length source ≤ file_limit)
 
--- a module was written whole, or a prefix of one
+-- the module of a source was written
 abbrev pub WritesModule : List ℕ → Option (List ℕ) → Option (List ℕ) → Type 0
 WritesModule source old new = (bytes : List ℕ) × CompilesTo source bytes × (new ≡ grown_by old bytes)
 
+-- a prefix of it was written
 abbrev pub WritesPrefix : List ℕ → Option (List ℕ) → Option (List ℕ) → Type 0
 WritesPrefix source old new = (bytes : List ℕ) × CompilesTo source bytes × GrowsByPrefix old new bytes
 
@@ -58,6 +60,7 @@ path_of (Missing path) = path
 path_of (Limit name path) = path
 path_of (NotBuilt path offset) = path
 
+-- a refusal names this file
 abbrev pub NamesFile : List ℕ → Status → Type 0
 NamesFile path (Refused refusal) = path_of refusal ≡ path
 NamesFile path _ = Unit {0}

@@ -64,7 +64,7 @@ fn answered<T: Tree, O: Sink>(alloc: Global, words: &[String], tree: &mut T, out
     }
 }
 
-/// Writes the answer's line. Only want of memory changes the answer.
+/// Writes the answer's line. Only want of memory changes the answer, and a put that fails doesn't.
 fn reported<E: Sink>(alloc: Global, status: Status, err: &mut E) -> Status
     ensures same { (result ≡ status) ⊎ (result ≡ Status.NoMemory) }
     ensures reports { Reports (E.content err.old) (E.content err.new) (HasRisen (E.faults err.old) (E.faults err.new)) result }

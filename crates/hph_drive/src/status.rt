@@ -19,6 +19,7 @@ pub enum Status {
     ReadFault,
     /// The module could not be written.
     WriteFault,
+    /// Memory ran out.
     NoMemory,
 }
 
