@@ -1,20 +1,14 @@
 use crate::module;
 use hph_wasm::{ExportDesc, ImportDesc, Instr};
 use sqlite_items::Items;
-use std::alloc::{AllocError, Global};
 use std::test::Fail;
-
-fn texts(alloc: Global, texts: &[&str]) -> Result<Items<Items<u8>>, AllocError> {
-    let mut items = Items::new(alloc);
-    for text in texts {
-        items.push(Items::from_slice(alloc, text.as_bytes())?)?;
-    }
-    Ok(items)
-}
 
 #[test]
 fn prints_each_text_from_its_place(rt: HostRuntime) -> Result<(), Fail> {
-    let texts = texts(rt.alloc(), &["3", "", "ab"])?;
+    let mut texts = Items::new(rt.alloc());
+    texts.push(Items::from_slice(rt.alloc(), b"3")?)?;
+    texts.push(Items::from_slice(rt.alloc(), b"")?)?;
+    texts.push(Items::from_slice(rt.alloc(), b"ab")?)?;
     let m = module(rt.alloc(), texts.as_slice())?;
     let main = m.funcs.get(0).ok_or("no function")?;
     let mut constants = Vec::new(rt.alloc());
