@@ -43,3 +43,7 @@ u32_bytes n = shortest_unsigned 4 n
 
 abbrev pub i32_bytes : ℤ → List ℕ
 i32_bytes z = shortest_signed 4 z
+
+-- numbers of 64 bits
+abbrev pub i64_bytes : ℤ → List ℕ
+i64_bytes z = shortest_signed 9 z

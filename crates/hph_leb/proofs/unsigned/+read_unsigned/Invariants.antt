@@ -1,0 +1,5 @@
+use Rattle.hph_leb.proofs.unsigned.+read_unsigned.Given as goal
+
+-- each byte spells seven bits
+abbrev pub decreases-read_unsigned : goal.decreases-read_unsigned
+decreases-read_unsigned l = l.bits

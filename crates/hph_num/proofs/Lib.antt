@@ -1,0 +1,5 @@
+pub mod ArithmeticLaws
+pub mod PowerLemmas
+pub mod ProductLemmas
+pub mod RangeLemmas
+pub mod ShiftLaws

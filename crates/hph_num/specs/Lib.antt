@@ -1,0 +1,3 @@
+pub mod Range
+pub mod Arithmetic
+pub mod Shifts
