@@ -15,7 +15,7 @@ pub record IsFirst {X : Type 0} (Spells : ℕ → X → List ℕ → Type 0) (jo
 
 -- a grammar by bytes
 pub record IsBytewise {X : Type 0} (Spells : ℕ → X → List ℕ → Type 0) (join : ℕ → X → X) : Type 0 where
-  pub some : (bits : ℕ) (x : X) → ¬ Spells bits x []
+  pub nonempty : (bits : ℕ) (x : X) → ¬ Spells bits x []
   pub last : (bits b : ℕ) (x : X) → Spells bits x (b ∷ []) → b < 2 ^ 7
   pub one : (bits b : ℕ) (x y : X) → Spells bits x (b ∷ []) → Spells bits y (b ∷ []) → x ≡ y
   pub more : (bits b c : ℕ) (x : X) (bytes : List ℕ) → Spells bits x (b ∷ c ∷ bytes) → IsFirst Spells join bits b x (c ∷ bytes)
@@ -30,7 +30,7 @@ join_signed b high = (pos b +ℤ (pos 128 *ℤ high)) -ℤ pos 128
 -- unsigned integers are spelled so
 pub unsigned_bytewise : IsBytewise Unsigned join_unsigned
 unsigned_bytewise = record {
-  some = λ bits n spells. spells;
+  nonempty = λ bits n spells. spells;
   last = λ bits b n spells. spells.0;
   one = λ bits b m n p q. p.2 ∙ sym q.2;
   more = λ bits b c n bytes spells. record { large = spells.0; wide = spells.2; high = spells.3; joined = omega (arith, spells.4); rest = spells.5 };
@@ -51,7 +51,7 @@ signed_one bits b y z (inr p) (inr q) = omega (arith, ints, p.3, q.3)
 -- and so are signed ones
 pub signed_bytewise : IsBytewise Signed join_signed
 signed_bytewise = record {
-  some = λ bits z spells. spells;
+  nonempty = λ bits z spells. spells;
   last = signed_last;
   one = signed_one;
   more = λ bits b c z bytes spells. record { large = spells.0; wide = spells.2; high = spells.3; joined = omega (arith, ints, spells.4); rest = spells.5 };

@@ -4,12 +4,6 @@ use Rattle.std.proofs.lemmas.List.{take_all}
 use Rattle.hph_leb.specs.Reading.{SpellsNoFront}
 use Rattle.hph_leb.proofs.Bytewise.{IsFirst, IsBytewise}
 
--- no bytes spell nothing
-pub no_bytes : {X : Type 0} {Spells : ℕ → X → List ℕ → Type 0} {join : ℕ → X → X} → IsBytewise Spells join →
-    (bits : ℕ) → SpellsNoFront (Spells bits) []
-no_bytes bytewise bits x zero spells = bytewise.some bits x spells
-no_bytes bytewise bits x (suc count) spells = bytewise.some bits x spells
-
 -- a byte that ends a spelling has nothing behind it
 only_byte : {X : Type 0} {Spells : ℕ → X → List ℕ → Type 0} {join : ℕ → X → X} → IsBytewise Spells join →
     (bits b : ℕ) (x : X) (bytes : List ℕ) → b < 2 ^ 7 → Spells bits x (b ∷ bytes) → Spells bits x (b ∷ [])
@@ -19,7 +13,7 @@ only_byte bytewise bits b x (c ∷ bytes) small spells = let first = bytewise.mo
 -- a byte that ends a spelling, and spells nothing alone
 pub no_last_byte : {X : Type 0} {Spells : ℕ → X → List ℕ → Type 0} {join : ℕ → X → X} → IsBytewise Spells join →
     (bits b : ℕ) (rest : List ℕ) → b < 2 ^ 7 → ((x : X) → ¬ Spells bits x (b ∷ [])) → SpellsNoFront (Spells bits) (b ∷ rest)
-no_last_byte bytewise bits b rest small alone x zero spells = bytewise.some bits x spells
+no_last_byte bytewise bits b rest small alone x zero spells = bytewise.nonempty bits x spells
 no_last_byte bytewise bits b rest small alone x (suc count) spells = alone x (only_byte bytewise bits b x (take count rest) small spells)
 
 -- a byte from 2^7 on goes before the spelling of another number
@@ -31,7 +25,7 @@ first_of_more bytewise bits b x (c ∷ bytes) large spells = bytewise.more bits 
 -- a byte that others have to follow, where none may, or none that do spell anything
 pub no_first_byte : {X : Type 0} {Spells : ℕ → X → List ℕ → Type 0} {join : ℕ → X → X} → IsBytewise Spells join →
     (bits b : ℕ) (rest : List ℕ) → 2 ^ 7 ≤ b → (7 < bits → SpellsNoFront (Spells (bits - 7)) rest) → SpellsNoFront (Spells bits) (b ∷ rest)
-no_first_byte bytewise bits b rest large behind x zero spells = bytewise.some bits x spells
+no_first_byte bytewise bits b rest large behind x zero spells = bytewise.nonempty bits x spells
 no_first_byte bytewise bits b rest large behind x (suc count) spells =
     let first = first_of_more bytewise bits b x (take count rest) large spells in
     behind first.wide first.high count first.rest

@@ -13,8 +13,8 @@ last_is_not_first bytewise bits b c a x y bytes f g p q e =
 -- by the number of bytes
 pub one_number : {X : Type 0} {Spells : ℕ → X → List ℕ → Type 0} {join : ℕ → X → X} → IsBytewise Spells join →
     (bits : ℕ) (x y : X) (f g r s : List ℕ) → Spells bits x f → Spells bits y g → f ++ r ≡ g ++ s → (x ≡ y) × (f ≡ g)
-one_number bytewise bits x y [] g r s p q e = absurd (bytewise.some bits x p)
-one_number bytewise bits x y (b ∷ f) [] r s p q e = absurd (bytewise.some bits y q)
+one_number bytewise bits x y [] g r s p q e = absurd (bytewise.nonempty bits x p)
+one_number bytewise bits x y (b ∷ f) [] r s p q e = absurd (bytewise.nonempty bits y q)
 one_number {Spells = Spells} bytewise bits x y (b ∷ []) (c ∷ []) r s p q e =
     let same : b ≡ c = cc in
     (bytewise.one bits c x y (subst (λ b. Spells bits x (b ∷ [])) same p) q, ap (λ b. b ∷ []) same)

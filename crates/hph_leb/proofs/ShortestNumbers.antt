@@ -54,11 +54,6 @@ pub above_seven_fits : (more last : ℕ) (z : ℤ) → magnitude z < 2 ^ (7 * su
 above_seven_fits more last (pos n) fits = div_fits more last n fits
 above_seven_fits more last (negsuc n) fits = div_fits more last n fits
 
--- a number that is too large for seven bits comes nearer to 0
-pub above_seven_smaller : (z : ℤ) → fits_seven z ≡ false → magnitude (above_seven z) < magnitude z
-above_seven_smaller (pos n) large = grind arith
-above_seven_smaller (negsuc n) large = grind arith
-
 -- a number of six bits and a sign fits in seven
 pub small_fits_seven : (z : ℤ) → magnitude z < 2 ^ 6 → fits_seven z ≡ true
 small_fits_seven (pos n) small = grind arith

@@ -1,0 +1,8 @@
+pub mod Places
+pub mod NextKeyLaws
+pub mod MapSteps
+pub mod ArrayLaws
+pub mod IsArrayLaws
+pub mod ArrayMapLaws
+mod Examples
+pub mod Measures

@@ -1,0 +1,29 @@
+use Rattle.std.proofs.Common.{sym, arith, true≢false}
+use Rattle.hph_array.proofs.Places.{lookup-zip-absent, length-push}
+use Rattle.hph_array.proofs.NextKeyLaws.{AreBelow-push, AreBelow-rise}
+use Rattle.hph_array.proofs.MapSteps.{set-there, set-absent}
+use Rattle.hph_array.proofs.map.OrdMap.set.Goals as goal
+
+pub returns-in-Some-clause-ok : goal.returns-in-Some-clause-ok
+returns-in-Some-clause-ok g c =
+    rw (← c.self.view_is)
+    (set-there _ _ _ c.self.invariant.same_length _ c.self.invariant.below _ _ (sym c.in-Some.ensures.index) (sym c.in-Some.ensures.found))
+
+pub returns-in_err-push_pair-in-None-clause-there : goal.returns-in_err-push_pair-in-None-clause-there
+returns-in_err-push_pair-in-None-clause-there g c =
+    rw (← c.self.view_is, lookup-zip-absent _ _ _ c.self.invariant.same_length (sym c.in-None.ensures.index)) (λ there. absurd (true≢false (sym there)))
+
+pub invariant_of-self-in-None : goal.invariant_of-self-in-None
+invariant_of-self-in-None g c =
+    rw (c.in_ok-push_pair-in-None.ensures.keys, c.in_ok-push_pair-in-None.ensures.values) record {
+      same_length = length-push c.self.inside.keys.keys c.self.inside.values.items _ _ c.self.invariant.same_length;
+      below = AreBelow-push c.larger-self-inside.result c.self.inside.keys.keys c.args.key
+          (AreBelow-rise c.self.inside.next c.larger-self-inside.result c.self.inside.keys.keys c.self.invariant.below (omega (arith, c.larger-self-inside.ensures)))
+          (omega (arith, c.larger-self-inside.ensures, c.number_after-past.ensures));
+      within = omega (arith, c.larger-self-inside.ensures, c.self.invariant.within, c.number_after-past.ensures);
+    }
+
+pub returns-in-None-clause-ok : goal.returns-in-None-clause-ok
+returns-in-None-clause-ok g c =
+    rw (← c.self.view_is, c.in_ok-push_pair-in-None.ensures.keys, c.in_ok-push_pair-in-None.ensures.values, c.larger-self-inside.ensures, c.number_after-past.ensures.value)
+    (set-absent c.self.inside.keys.keys c.self.inside.values.items c.self.inside.next c.self.invariant.same_length c.args.key c.args.value (sym c.in-None.ensures.index))

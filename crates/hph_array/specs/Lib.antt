@@ -1,0 +1,4 @@
+pub mod Bytes
+pub mod Key
+pub mod Array
+pub mod formers

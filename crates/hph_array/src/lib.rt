@@ -1,0 +1,19 @@
+//! Byte strings, keys and arrays, the values of a program that hold other values.
+//!
+//! `OrdMap` is PHP's array: pairs of distinct keys and values in order, with the key of the next append.
+//! It meets the operations of specs/Array.antt, and after a refusal it is as it was. A value type may contain
+//! itself through it and through `Shared`; specs/formers says where each keeps its values.
+#![tactic(auto)]
+
+mod bytes;
+mod key;
+mod map;
+mod shared;
+
+pub use bytes::Bytes;
+pub use key::Key;
+pub use map::{AppendFault, OrdMap};
+pub use shared::Shared;
+
+#[cfg(test)]
+mod tests;

@@ -1,0 +1,249 @@
+ghost use Rattle.std.specs.Prelude.{◌≡◌, [], ◌∷◌, ◌++◌, ◌==◌, ◌<◌, ◌≤◌, ◌^◌, ◌↔◌, length, max, false, OnOk, OnErr, IfOk, IsOk, IsSome, Err, Some, slice_get, slice_set};
+ghost use Rattle.std.specs.Option.{option_copied, option_map, is_some};
+ghost use Rattle.indexmap.specs.IndexSet.{contains};
+ghost use Rattle.hph_array.specs.Key.{key_eq};
+ghost use Rattle.hph_array.specs.Array.{IsArray, get, set, append, unset, replace, last, pop, fallen};
+
+use crate::key::Key;
+use indexmap::IndexSet;
+use std::alloc::{AllocError, Global};
+use std::marker::Model;
+use std::mem;
+
+/// Why a value couldn't be appended.
+#[derive(Clone, Copy, Debug, PartialEq, Eq)]
+pub enum AppendFault {
+    /// The next key is 2^63, which is no int.
+    Full,
+    /// There is no memory.
+    NoMemory,
+}
+
+/// An array (PHP manual, 'Arrays'): pairs of distinct keys and values in order, and the key of the next append.
+#[derive(Drop)]
+pub struct OrdMap<V> {
+    keys: IndexSet<Key>,
+    values: Vec<V>,
+    next: u64,
+}
+
+impl<V> Model for OrdMap<V> {
+    ghost use Rattle.std.specs.List.{zip};
+    ghost use Rattle.hph_array.specs.Array.{Array, array_code, MakeArray};
+
+    ghost Value = { Array V };
+
+    ghost coded = { array_code V.code };
+
+    ghost view = { λ m. record { pairs = zip m.keys.keys m.values.items; next_key = m.next } };
+
+    ghost invariant = { λ m. MakeArray m.keys.keys m.values.items m.next };
+}
+
+impl<V> OrdMap<V> {
+    /// An array without pairs, whose next key is 0.
+    pub fn new(alloc: Global) -> OrdMap<V>
+        ensures pairs { result.pairs ≡ [] }
+        ensures next_key { result.next_key ≡ 0 }
+    {
+        OrdMap {
+            keys: IndexSet::new(alloc),
+            values: Vec::new(alloc),
+            next: 0,
+        }
+    }
+
+    /// The number of pairs.
+    pub fn len(&self) -> usize
+        ensures value { result ≡ length self.now.pairs }
+        ensures array { IsArray self.now }
+    {
+        self.keys.len()
+    }
+
+    /// Whether it has no pair.
+    pub fn is_empty(&self) -> bool
+        ensures { result ≡ (length self.now.pairs == 0) }
+    {
+        self.len() == 0
+    }
+
+    /// The key of the next append. It is 2^63, which is no int, where the array can't be appended to.
+    pub fn next_key(&self) -> u64
+        ensures { result ≡ self.now.next_key }
+    {
+        self.next
+    }
+
+    /// The value at a key.
+    pub fn get(&self, key: &Key) -> Option<&V>
+        ensures { option_copied result ≡ get self.now key.now }
+    {
+        let at = self.keys.get_index_of(key)?;
+        item(&self.values, at)
+    }
+
+    /// The pair at a place, counted from 0.
+    pub fn at(&self, index: usize) -> Option<(&Key, &V)>
+        ensures { option_map (λ pair. (pair.0.now, pair.1.now)) result ≡ slice_get self.now.pairs index }
+    {
+        let key = self.keys.get_index(index)?;
+        let value = item(&self.values, index)?;
+        Some((key, value))
+    }
+}
+
+impl<V: Drop> OrdMap<V> {
+    /// Puts a value at a key: in its place if the key is there, else last (PHP manual, 'Arrays').
+    /// Where there is no memory the array is unchanged.
+    pub fn set(&mut self, key: Key, value: V) -> Result<(), AllocError>
+        ensures ok { OnOk result (self.new ≡ set self.old key value) }
+        ensures err { OnErr result (self.new ≡ self.old) }
+        ensures there { IsSome (get self.old key) → IsOk result }
+    {
+        let past = key.number_after();
+        match self.keys.get_index_of(&key) {
+            Some(at) => {
+                self.values[at] = value;
+                return Ok(());
+            }
+            None => {
+                push_pair(&mut self.keys, &mut self.values, key, value)?;
+                self.next = larger(self.next, past);
+                return Ok(());
+            }
+        }
+    }
+
+    /// Puts a value last, at the next key (PHP manual, 'Arrays'). Full where there is no next key, NoMemory where
+    /// there is no memory; the array is then unchanged.
+    pub fn append(&mut self, value: V) -> Result<(), AppendFault>
+        ensures ok { OnOk result (self.new ≡ append self.old value) }
+        ensures err { OnErr result (self.new ≡ self.old) }
+        ensures full { (result ≡ Err AppendFault.Full) ↔ (self.old.next_key ≡ 2 ^ 63) }
+    {
+        if self.next == 1 << 63 {
+            return Err(AppendFault::Full);
+        }
+        let key = Key::Int(self.next as i64);
+        match push_pair(&mut self.keys, &mut self.values, key, value) {
+            Ok(()) => {
+                self.next += 1;
+                return Ok(());
+            }
+            Err(_) => return Err(AppendFault::NoMemory),
+        }
+    }
+
+    /// Removes the pair of a key and says whether there was one. The next key stays (PHP manual, 'Arrays').
+    pub fn unset(&mut self, key: &Key) -> bool
+        ensures rest { self.new ≡ unset self.old key.now }
+        ensures found { result ≡ is_some (get self.old key.now) }
+    {
+        match self.keys.shift_remove_full(key) {
+            Some((at, _)) => {
+                self.values.remove(at);
+                return true;
+            }
+            None => return false,
+        }
+    }
+
+    /// Removes the last pair and gives it (PHP manual, 'array_pop'). The next key falls to its key if that is an
+    /// int one below it.
+    pub fn pop(&mut self) -> Option<(Key, V)>
+        ensures value { result ≡ last self.old.pairs }
+        ensures rest { self.new ≡ pop self.old }
+    {
+        let Some(key) = self.keys.pop() else {
+            return None;
+        };
+        match self.values.pop() {
+            Some(value) => {
+                self.next = fallen_key(self.next, &key);
+                return Some((key, value));
+            }
+            None => return None,
+        }
+    }
+
+    /// Gives the value at a key and leaves `empty` in its place, so that the value can be changed without a copy.
+    pub fn take(&mut self, key: &Key, empty: V) -> Option<V>
+        ensures value { result ≡ get self.old key.now }
+        ensures rest { self.new ≡ replace self.old key.now empty }
+    {
+        match self.keys.get_index_of(key) {
+            Some(at) => return Some(exchange(&mut self.values, at, empty)),
+            None => return None,
+        }
+    }
+}
+
+impl<V: Drop + Clone> OrdMap<V> {
+    /// An equal array of its own: neither is changed by what is done to the other.
+    pub fn copy(&self) -> Result<OrdMap<V>, AllocError>
+        requires { (x y : V) → V.is_clone x y → y ≡ x }
+        ensures { IfOk result (λ copy. copy ≡ self.now) }
+    {
+        Ok(OrdMap {
+            keys: self.keys.clone()?,
+            values: self.values.clone()?,
+            next: self.next,
+        })
+    }
+}
+
+// The item at a place.
+fn item<T>(items: &[T], at: usize) -> Option<&T>
+    ensures { option_copied result ≡ slice_get items.now at }
+{
+    items.get(at)
+}
+
+// Puts a new key and its value last, both or neither.
+fn push_pair<V: Drop>(
+    keys: &mut IndexSet<Key>,
+    values: &mut Vec<V>,
+    key: Key,
+    value: V,
+) -> Result<(), AllocError>
+    requires { contains key_eq keys.old key ≡ false }
+    ensures keys { OnOk result (keys.new.keys ≡ keys.old.keys ++ key ∷ []) }
+    ensures values { OnOk result (values.new.items ≡ values.old.items ++ value ∷ []) }
+    ensures keys_stay { OnErr result (keys.new.keys ≡ keys.old.keys) }
+    ensures values_stay { OnErr result (values.new.items ≡ values.old.items) }
+{
+    values.push(value)?;
+    match keys.insert_full(key) {
+        Ok(_) => Ok(()),
+        Err(_) => {
+            values.pop();
+            Err(AllocError)
+        }
+    }
+}
+
+// Puts a value in the place of another, and gives that one.
+fn exchange<V: Drop>(values: &mut Vec<V>, at: usize, value: V) -> V
+    requires { at < length values.old.items }
+    ensures old { slice_get values.old.items at ≡ Some result }
+    ensures new { values.new.items ≡ slice_set values.old.items at value }
+{
+    mem::replace(&mut values[at], value)
+}
+
+fn larger(a: u64, b: u64) -> u64
+    ensures { result ≡ max a b }
+{
+    a.max(b)
+}
+
+// The next key after a pop of this key.
+fn fallen_key(next: u64, key: &Key) -> u64
+    ensures { result ≡ fallen next key.now }
+{
+    match key {
+        Key::Int(number) if *number >= 0 && next == *number as u64 + 1 => *number as u64,
+        _ => next,
+    }
+}
