@@ -1,4 +1,5 @@
-//! What holds of every spelling of an integer (Core Specification 1.0, 5.2.2). The functions do nothing: each is there for its contract.
+//! What holds of every spelling of an integer (Core Specification 1.0, 5.2.2). The functions do
+//! nothing: each is there for its contract.
 ghost use Rattle.std.specs.Prelude.{◌≡◌, ◌<◌, ◌≤◌, ◌^◌, ◌++◌, ℕ, ℤ, List, length, drop, Option, FitsSigned};
 ghost use Rattle.std.specs.Int.{w32, w64};
 ghost use Rattle.hph_wasm.specs.Leb128.{Unsigned, Signed, u32_bytes, i32_bytes, i64_bytes};
@@ -33,7 +34,8 @@ pub fn one_number()
         → f ++ r ≡ g ++ s → (y ≡ z) × (f ≡ g) }
 {}
 
-/// What is read where a number is written is the number, with nothing left of its bytes, whatever stands before and behind it.
+/// What is read where a number is written is that number, with nothing left of its bytes, whatever
+/// stands before and behind them.
 pub fn written_numbers_are_read()
     ensures u32 { (n : ℕ) (front rest : List ℕ) (reading : Option (ℕ × ℕ)) → n < 2 ^ 32
         → IsReading (Unsigned 32) (drop (length front) (front ++ u32_bytes n ++ rest)) reading

@@ -7,6 +7,7 @@ use hph_wasm::numbers_in_range;
 use std::alloc::AllocError;
 
 /// Appends the shortest spelling of a signed number of 32 bits (Core Specification 1.0, 5.2.2).
+/// Where memory runs out, some of its bytes may have been appended.
 pub fn put_i32(into: &mut Vec<u8>, value: i32) -> Result<(), AllocError>
     ensures { OnOk result (into.new.items ≡ into.old.items ++ i32_bytes value) }
 {
@@ -14,6 +15,7 @@ pub fn put_i32(into: &mut Vec<u8>, value: i32) -> Result<(), AllocError>
 }
 
 /// Appends the shortest spelling of a signed number of 64 bits (Core Specification 1.0, 5.2.2).
+/// Where memory runs out, some of its bytes may have been appended.
 pub fn put_i64(into: &mut Vec<u8>, value: i64) -> Result<(), AllocError>
     ensures { OnOk result (into.new.items ≡ into.old.items ++ i64_bytes value) }
 {
@@ -87,7 +89,8 @@ fn read_signed(bytes: &[u8], bits: u32) -> Option<(i64, usize)>
     Some((high * 128 + i64::from(*first - 128), length + 1))
 }
 
-/// The signed number that one byte spells: its seventh bit is the sign, and so are the bits above the number's own.
+/// The signed number that one byte spells: its seventh bit is the sign, and so are the bits above
+/// the number's own.
 fn last_signed(byte: u8, bits: u32) -> Option<i64>
     requires last { byte < 128 }
     requires some { 0 < bits }

@@ -7,6 +7,7 @@ use hph_wasm::numbers_in_range;
 use std::alloc::AllocError;
 
 /// Appends the shortest spelling of an unsigned number of 32 bits (Core Specification 1.0, 5.2.2).
+/// Where memory runs out, some of its bytes may have been appended.
 pub fn put_u32(into: &mut Vec<u8>, value: u32) -> Result<(), AllocError>
     ensures { OnOk result (into.new.items ≡ into.old.items ++ u32_bytes value) }
 {

@@ -1,5 +1,4 @@
-pub mod ShortestNumbers
-pub mod SpelledNumbers
+pub mod NumberLaws
 pub mod Vectors
 pub mod Blocks
 pub mod Runs

@@ -8,24 +8,24 @@ use Rattle.hph_wasm.specs.declared.types.ValType.{ValType}
 use Rattle.hph_wasm.specs.declared.types.ValType.TheVariants.{I32, I64}
 use Rattle.hph_wasm.specs.declared.instr.Instr.{Instr, Block', Call, I32Const, Row_of-Instr, end_of-Instr, more_of-Instr}
 use Rattle.hph_wenc.specs.Fits.{InstrFits, RowFits, ExpressionFits, SegmentFits}
-use Rattle.hph_wenc.proofs.SpelledNumbers.{u32_spelled, i32_spelled}
+use Rattle.hph_wenc.proofs.NumberLaws.{NumbersAreSpelled}
 use Rattle.hph_wenc.proofs.SpelledParts.{both, Spelled, bytes_spelled, each_spelled, vector_spelled}
 use Rattle.hph_wenc.proofs.Vectors.{front_short, rest_short}
 use Rattle.hph_wenc.proofs.Runs.{CountAtMost-runs_of, length-runs_of}
 
 mutual
-  pub instruction_spelled : (i : Instr) → InstrFits i → Instruction i (instr_bytes i)
-  instruction_spelled (Block' ty shape body) fits = both (0x02 ∷ []) _ refl (both (result_byte ty.result ∷ []) _ refl (both (row_bytes body) (0x0B ∷ []) (instructions_spelled body fits) refl))
-  instruction_spelled (Call func) fits = both (0x10 ∷ []) _ refl (u32_spelled func fits)
-  instruction_spelled (I32Const value) fits = both (0x41 ∷ []) _ refl (i32_spelled value fits)
+  pub instruction_spelled : NumbersAreSpelled → (i : Instr) → InstrFits i → Instruction i (instr_bytes i)
+  instruction_spelled numbers (Block' ty shape body) fits = both (0x02 ∷ []) _ refl (both (result_byte ty.result ∷ []) _ refl (both (row_bytes body) (0x0B ∷ []) (instructions_spelled numbers body fits) refl))
+  instruction_spelled numbers (Call func) fits = both (0x10 ∷ []) _ refl (numbers.u32 func fits)
+  instruction_spelled numbers (I32Const value) fits = both (0x41 ∷ []) _ refl (numbers.i32 value fits)
 
-  pub instructions_spelled : {m : _} (row : Row_of-Instr m) → RowFits row → Instructions row (row_bytes row)
-  instructions_spelled end_of-Instr fits = refl
-  instructions_spelled (more_of-Instr i rest) fits = both (instr_bytes i) (row_bytes rest) (instruction_spelled i fits.0) (instructions_spelled rest fits.1)
+  pub instructions_spelled : NumbersAreSpelled → {m : _} (row : Row_of-Instr m) → RowFits row → Instructions row (row_bytes row)
+  instructions_spelled numbers end_of-Instr fits = refl
+  instructions_spelled numbers (more_of-Instr i rest) fits = both (instr_bytes i) (row_bytes rest) (instruction_spelled numbers i fits.0) (instructions_spelled numbers rest fits.1)
 
 -- the bytes of an expression spell it
-pub expression_spelled : (body : List Instr) → ExpressionFits body → length (expression_bytes body) < 2 ^ 32 → Expression body (expression_bytes body)
-expression_spelled body fits short = both _ _ (each_spelled Instruction instr_bytes InstrFits (λ i fit _. instruction_spelled i fit) body fits (front_short (flat_map instr_bytes body) _ short)) refl
+pub expression_spelled : NumbersAreSpelled → (body : List Instr) → ExpressionFits body → length (expression_bytes body) < 2 ^ 32 → Expression body (expression_bytes body)
+expression_spelled numbers body fits short = both _ _ (each_spelled Instruction instr_bytes InstrFits (λ i fit _. instruction_spelled numbers i fit) body fits (front_short (flat_map instr_bytes body) _ short)) refl
 
 -- equal by the test, equal
 same_type-equal : (t s : ValType) → same_type t s ≡ true → t ≡ s
@@ -55,16 +55,16 @@ made_of-runs_of [] = refl
 made_of-runs_of (t ∷ locals) = made_of-with_local t (runs_of locals) ∙ ap (λ made. t ∷ made) (made_of-runs_of locals)
 
 -- the longest runs spell the locals
-pub locals_spelled : (locals : List ValType) → length locals < 2 ^ 32 → length (locals_bytes locals) < 2 ^ 32 → Locals locals (locals_bytes locals)
+pub locals_spelled : NumbersAreSpelled → (locals : List ValType) → length locals < 2 ^ 32 → length (locals_bytes locals) < 2 ^ 32 → Locals locals (locals_bytes locals)
 unfolding made_of
-locals_spelled locals few short =
+locals_spelled numbers locals few short =
     let runs = runs_of locals in
     let few_runs : length runs < 2 ^ 32 = omega (arith, length-runs_of locals) in
     record {
       runs = runs;
       made = made_of-runs_of locals;
       few = few;
-      spelled = vector_spelled LocalRun run_bytes (λ run. run.0 ≤ length locals) (λ run least _. both (u32_bytes run.0) (value_type_bytes run.1) (u32_spelled run.0 (omega arith)) refl) runs (CountAtMost-runs_of locals) few_runs short;
+      spelled = vector_spelled numbers LocalRun run_bytes (λ run. run.0 ≤ length locals) (λ run least _. both (u32_bytes run.0) (value_type_bytes run.1) (numbers.u32 run.0 (omega arith)) refl) runs (CountAtMost-runs_of locals) few_runs short;
     }
 
 -- a function's code, by its locals and body
@@ -76,21 +76,21 @@ abbrev pub PairFits : List ValType × List Instr → Type 0
 PairFits code = (length code.0 < 2 ^ 32) × ExpressionFits code.1
 
 -- the bytes of a function's code spell it
-pub code_spelled : Spelled Code pair_bytes PairFits
-code_spelled code fits short =
+pub code_spelled : NumbersAreSpelled → Spelled Code pair_bytes PairFits
+code_spelled numbers code fits short =
     let content = locals_bytes code.0 ++ expression_bytes code.1 in
     let all : length content < 2 ^ 32 = rest_short (u32_bytes (length content)) content short in
     record {
       size = u32_bytes (length content);
       body = content;
       split = refl;
-      counted = u32_spelled (length content) all;
-      inside = both _ _ (locals_spelled code.0 fits.0 (front_short _ (expression_bytes code.1) all)) (expression_spelled code.1 fits.1 (rest_short (locals_bytes code.0) _ all));
+      counted = numbers.u32 (length content) all;
+      inside = both _ _ (locals_spelled numbers code.0 fits.0 (front_short _ (expression_bytes code.1) all)) (expression_spelled numbers code.1 fits.1 (rest_short (locals_bytes code.0) _ all));
     }
 
 -- the bytes of a data segment spell it
-pub segment_spelled : Spelled Data segment_bytes SegmentFits
-segment_spelled s fits short =
+pub segment_spelled : NumbersAreSpelled → Spelled Data segment_bytes SegmentFits
+segment_spelled numbers s fits short =
     let behind : length (expression_bytes s.offset ++ counted_bytes s.bytes) < 2 ^ 32 = rest_short (u32_bytes s.memory) _ short in
     let bytes : length s.bytes < 2 ^ 32 = rest_short (u32_bytes (length s.bytes)) _ (rest_short (expression_bytes s.offset) _ behind) in
-    both _ _ (u32_spelled s.memory fits.0) (both _ _ (expression_spelled s.offset fits.1 (front_short (expression_bytes s.offset) _ behind)) (bytes_spelled s.bytes bytes))
+    both _ _ (numbers.u32 s.memory fits.0) (both _ _ (expression_spelled numbers s.offset fits.1 (front_short (expression_bytes s.offset) _ behind)) (bytes_spelled numbers s.bytes bytes))

@@ -8,7 +8,7 @@ use Rattle.hph_wasm.specs.Spelling.{func_type_bytes, import_bytes, type_index_by
 use Rattle.hph_wasm.specs.declared.module.Func.{Func}
 use Rattle.hph_wasm.specs.declared.module.Module.{Module}
 use Rattle.hph_wenc.specs.Fits.{ImportFits, LimitsFit, ExportFits, CodeFits, SegmentFits}
-use Rattle.hph_wenc.proofs.SpelledNumbers.{u32_spelled}
+use Rattle.hph_wenc.proofs.NumberLaws.{NumbersAreSpelled}
 use Rattle.hph_wenc.proofs.SpelledParts.{both, Spelled, all_fit, func_type_spelled, import_spelled, limits_spelled, export_spelled}
 use Rattle.hph_wenc.proofs.SpelledCode.{pair_bytes, PairFits, code_spelled, segment_spelled}
 use Rattle.hph_wenc.proofs.SpelledSections.{Written, written_end, written_section, without_custom-above, custom_named}
@@ -29,8 +29,8 @@ pairs_fit [] few all = tt
 pairs_fit (f ∷ funcs) few all = ((few.0, all.0), pairs_fit funcs few.1 all.1)
 
 -- the bytes of a type's number spell it
-type_index_spelled : Spelled (Unsigned 32) u32_bytes (λ ty. ty < 2 ^ 32)
-type_index_spelled ty fits _ = u32_spelled ty fits
+type_index_spelled : NumbersAreSpelled → Spelled (Unsigned 32) u32_bytes (λ ty. ty < 2 ^ 32)
+type_index_spelled numbers ty fits _ = numbers.u32 ty fits
 
 -- a section of things that are made of others is as short
 IsShort-map : {X Y : Type 0} (id : ℕ) (f : Y → List ℕ) (g : X → Y) (xs : List X) → IsShort id (λ x. f (g x)) xs → IsShort id f (map g xs)
@@ -53,39 +53,39 @@ abbrev functions_on : Module → List ℕ
 functions_on m = section_bytes 3 type_index_bytes m.funcs ++ memories_on m
 
 -- the data section is written
-data_written : (m : Module) → ModuleFits m → HasShortSections m → Written 10 (FromData m) (data_on m)
-data_written m fits short =
+data_written : NumbersAreSpelled → (m : Module) → ModuleFits m → HasShortSections m → Written 10 (FromData m) (data_on m)
+data_written numbers m fits short =
     subst (Written 10 (FromData m)) (append-nil (data_on m))
-    (written_section 10 11 Data segment_bytes SegmentFits NoSections m.segments [] segment_spelled fits.segments short.segments (omega arith) (written_end 11))
+    (written_section numbers 10 11 Data segment_bytes SegmentFits NoSections m.segments [] (segment_spelled numbers) fits.segments short.segments (omega arith) (written_end 11))
 
 -- the code section is, and those behind it
-code_written : (m : Module) → IsWritable m → ModuleFits m → HasShortSections m → Written 7 (FromCode m) (code_on m)
-code_written m writable fits short =
+code_written : NumbersAreSpelled → (m : Module) → IsWritable m → ModuleFits m → HasShortSections m → Written 7 (FromCode m) (code_on m)
+code_written numbers m writable fits short =
     subst (λ bytes. Written 7 (FromCode m) (bytes ++ data_on m)) (section_bytes-map 10 pair_bytes code_of_func m.funcs)
-    (written_section 7 10 Code pair_bytes PairFits (FromData m) (map code_of_func m.funcs) (data_on m) code_spelled (pairs_fit m.funcs writable.few_locals fits.codes)
-    (IsShort-map 10 pair_bytes code_of_func m.funcs short.codes) (omega arith) (data_written m fits short))
+    (written_section numbers 7 10 Code pair_bytes PairFits (FromData m) (map code_of_func m.funcs) (data_on m) (code_spelled numbers) (pairs_fit m.funcs writable.few_locals fits.codes)
+    (IsShort-map 10 pair_bytes code_of_func m.funcs short.codes) (omega arith) (data_written numbers m fits short))
 
 -- the memory and export sections are, and those behind them
-memories_written : (m : Module) → IsWritable m → ModuleFits m → HasShortSections m → Written 3 (FromMemories m) (memories_on m)
-memories_written m writable fits short =
-    written_section 3 5 MemoryType limits_bytes LimitsFit (FromExports m) m.memories _ limits_spelled fits.memories short.memories (omega arith)
-    (written_section 5 7 Exported export_bytes ExportFits (FromCode m) m.exports (code_on m) export_spelled fits.exports short.exports (omega arith) (code_written m writable fits short))
+memories_written : NumbersAreSpelled → (m : Module) → IsWritable m → ModuleFits m → HasShortSections m → Written 3 (FromMemories m) (memories_on m)
+memories_written numbers m writable fits short =
+    written_section numbers 3 5 MemoryType limits_bytes LimitsFit (FromExports m) m.memories _ (limits_spelled numbers) fits.memories short.memories (omega arith)
+    (written_section numbers 5 7 Exported export_bytes ExportFits (FromCode m) m.exports (code_on m) (export_spelled numbers) fits.exports short.exports (omega arith) (code_written numbers m writable fits short))
 
 -- the function section is, and those behind it
-functions_written : (m : Module) → IsWritable m → ModuleFits m → HasShortSections m → Written 2 (FromFunctions m) (functions_on m)
-functions_written m writable fits short =
+functions_written : NumbersAreSpelled → (m : Module) → IsWritable m → ModuleFits m → HasShortSections m → Written 2 (FromFunctions m) (functions_on m)
+functions_written numbers m writable fits short =
     subst (λ bytes. Written 2 (FromFunctions m) (bytes ++ memories_on m)) (section_bytes-map 3 u32_bytes type_of_func m.funcs)
-    (written_section 2 3 (Unsigned 32) u32_bytes (λ ty. ty < 2 ^ 32) (FromMemories m) (map type_of_func m.funcs) (memories_on m) type_index_spelled fits.functions
-    (IsShort-map 3 u32_bytes type_of_func m.funcs short.functions) (omega arith) (memories_written m writable fits short))
+    (written_section numbers 2 3 (Unsigned 32) u32_bytes (λ ty. ty < 2 ^ 32) (FromMemories m) (map type_of_func m.funcs) (memories_on m) (type_index_spelled numbers) fits.functions
+    (IsShort-map 3 u32_bytes type_of_func m.funcs short.functions) (omega arith) (memories_written numbers m writable fits short))
 
 -- a module that can be written and fits is spelled by its bytes
-pub module_spelled : (m : Module) → IsWritable m → ModuleFits m → SpellsModule (spelling m) m
+pub module_spelled : NumbersAreSpelled → (m : Module) → IsWritable m → ModuleFits m → SpellsModule (spelling m) m
 unfolding spelling
-module_spelled m writable fits =
+module_spelled numbers m writable fits =
     let short = sections_short m writable.short in
     let written : Written 0 (FromTypes m) _ =
-    written_section 0 1 FunctionType func_type_bytes (λ _. Unit {0}) (FromImports m) m.types _ func_type_spelled (all_fit m.types) short.types (omega arith)
-    (written_section 1 2 Imported import_bytes ImportFits (FromFunctions m) m.imports _ import_spelled fits.imports short.imports (omega arith) (functions_written m writable fits short)) in
+    written_section numbers 0 1 FunctionType func_type_bytes (λ _. Unit {0}) (FromImports m) m.types _ (func_type_spelled numbers) (all_fit m.types) short.types (omega arith)
+    (written_section numbers 1 2 Imported import_bytes ImportFits (FromFunctions m) m.imports _ (import_spelled numbers) fits.imports short.imports (omega arith) (functions_written numbers m writable fits short)) in
     both header _ refl (record {
       sections = written.sections;
       stand = written.stand;

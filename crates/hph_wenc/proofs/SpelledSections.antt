@@ -5,6 +5,7 @@ use Rattle.std.specs.List.{AllByRecursion}
 use Rattle.hph_wasm.specs.Leb128.{u32_bytes}
 use Rattle.hph_wasm.specs.Grammar.{Grammar, Each, Vector, RawSection, BeginsWithName, without_custom, Section, NoSections}
 use Rattle.hph_wasm.specs.Spelling.{vector_bytes, section_bytes}
+use Rattle.hph_wenc.proofs.NumberLaws.{NumbersAreSpelled}
 use Rattle.hph_wenc.proofs.SpelledParts.{both, Spelled, bytes_spelled, vector_spelled}
 use Rattle.hph_wenc.proofs.Vectors.{rest_short}
 use Rattle.hph_wenc.proofs.ShortSections.{IsShort}
@@ -40,19 +41,19 @@ pub written_end : (id : ℕ) → Written id NoSections []
 written_end id = record { sections = []; stand = refl; above = tt; inside = refl }
 
 -- a section before others, unless it has nothing
-pub written_section : {X : Type 0} (lower id : ℕ) (P : X → Grammar) (f : X → List ℕ) (Fits : X → Type 0) (next : List (ℕ × List ℕ) → Type 0) (xs : List X) (bytes : List ℕ)
+pub written_section : NumbersAreSpelled → {X : Type 0} (lower id : ℕ) (P : X → Grammar) (f : X → List ℕ) (Fits : X → Type 0) (next : List (ℕ × List ℕ) → Type 0) (xs : List X) (bytes : List ℕ)
     → Spelled P f Fits → AllByRecursion Fits xs → IsShort id f xs → lower < id → Written id next bytes → Written lower (Section id P xs next) (section_bytes id f xs ++ bytes)
-written_section lower id P f Fits next [] bytes one all short less rest =
+written_section numbers lower id P f Fits next [] bytes one all short less rest =
     record { sections = rest.sections; stand = rest.stand; above = AllAbove-below lower id rest.sections less rest.above; inside = no_section id P next rest.sections rest.above rest.inside }
-written_section lower id P f Fits next (x ∷ xs) bytes one all short less rest =
+written_section numbers lower id P f Fits next (x ∷ xs) bytes one all short less rest =
     let content = vector_bytes f (x ∷ xs) in
     let few : length content < 2 ^ 32 = rest_short (u32_bytes (length content)) content (rest_short (id ∷ []) _ short.short) in
     record {
       sections = (id, content) ∷ rest.sections;
-      stand = both (section_bytes id f (x ∷ xs)) bytes (both (id ∷ []) _ refl (bytes_spelled content few)) rest.stand;
+      stand = both (section_bytes id f (x ∷ xs)) bytes (both (id ∷ []) _ refl (bytes_spelled numbers content few)) rest.stand;
       above = (less, AllAbove-below lower id rest.sections less rest.above);
       inside = subst (λ here. MatchBool here (Vector P (x ∷ xs) content × next rest.sections) ((x ∷ xs ≡ []) × next ((id, content) ∷ rest.sections))) (sym (same id))
-          (vector_spelled P f Fits one (x ∷ xs) all short.few few, rest.inside);
+          (vector_spelled numbers P f Fits one (x ∷ xs) all short.few few, rest.inside);
     }
   where
     same : (n : ℕ) → nat_eq n n ≡ true

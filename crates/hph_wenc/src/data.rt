@@ -4,8 +4,8 @@ ghost use Rattle.hph_wasm.specs.Spelling.{segment_bytes};
 ghost use Rattle.hph_wenc.specs.Fits.{SegmentFits};
 
 use crate::instructions::put_expression;
-use crate::leb128::put_u32;
 use crate::put::Put;
+use hph_leb::put_u32;
 use hph_wasm::Segment;
 use std::alloc::AllocError;
 

@@ -4,8 +4,8 @@ ghost use Rattle.hph_wasm.specs.Spelling.{export_bytes, export_desc_bytes};
 ghost use Rattle.hph_wenc.specs.Fits.{ExportFits, ExportDescFits};
 
 use crate::byte_codes::FUNC;
-use crate::leb128::put_u32;
 use crate::put::{Put, put_bytes};
+use hph_leb::put_u32;
 use hph_wasm::{Export, ExportDesc};
 use std::alloc::AllocError;
 

@@ -4,8 +4,8 @@ ghost use Rattle.hph_wasm.specs.Spelling.{import_bytes, import_desc_bytes};
 ghost use Rattle.hph_wenc.specs.Fits.{ImportFits, ImportDescFits};
 
 use crate::byte_codes::FUNC;
-use crate::leb128::put_u32;
 use crate::put::{Put, put_bytes};
+use hph_leb::put_u32;
 use hph_wasm::{Import, ImportDesc};
 use std::alloc::AllocError;
 

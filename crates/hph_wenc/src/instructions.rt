@@ -5,8 +5,8 @@ ghost use Rattle.hph_wasm.specs.Spelling.{instr_bytes, expression_bytes};
 ghost use Rattle.hph_wenc.specs.Fits.{InstrFits, ExpressionFits};
 
 use crate::byte_codes::{BLOCK, CALL, END, I32_CONST, NO_RESULT};
-use crate::leb128::{put_i32, put_u32};
 use crate::types::value_type_code;
+use hph_leb::{put_i32, put_u32};
 use hph_wasm::{BlockType, Instr};
 use std::alloc::AllocError;
 

@@ -1,7 +1,7 @@
 //! Writes WebAssembly modules as bytes, in the binary format of the Core Specification 1.0 (section 5).
 //!
 //! Its one contract is that of `write`: the bytes are the module's `spelling`, as the library of modules defines it,
-//! and they are one of those that its grammar, `SpellsModule`, allows. Two laws say that the numbers are the shortest.
+//! and they are one of those that its grammar, `SpellsModule`, allows. Numbers are the library `hph_leb`'s.
 //! Inside, what adds bytes to an `out` may have added some of them where it ends in an error.
 #![tactic(auto)]
 
@@ -12,7 +12,6 @@ mod exports;
 mod functions;
 mod imports;
 mod instructions;
-mod leb128;
 mod locals;
 mod memories;
 mod module;
@@ -21,5 +20,4 @@ mod put;
 mod tests;
 mod types;
 
-pub use leb128::{i32_bytes_are_shortest, u32_bytes_are_shortest};
 pub use module::write;

@@ -2,9 +2,9 @@
 ghost use Rattle.std.specs.Prelude.{◌≡◌, ◌<◌, ◌^◌, ◌+◌, ◌++◌, length, reverse, All, IfOk, OnOk};
 ghost use Rattle.hph_wasm.specs.Spelling.{run_bytes, runs_of, with_local};
 
-use crate::leb128::put_u32;
 use crate::put::Put;
 use crate::types::value_type_code;
+use hph_leb::put_u32;
 use hph_wasm::ValType;
 use std::alloc::{AllocError, Global};
 use std::marker::Model;

@@ -4,8 +4,8 @@ ghost use Rattle.hph_wasm.specs.Spelling.{limits_bytes};
 ghost use Rattle.hph_wenc.specs.Fits.{LimitsFit};
 
 use crate::byte_codes::{MIN_ALONE, MIN_AND_MAX};
-use crate::leb128::put_u32;
 use crate::put::Put;
+use hph_leb::put_u32;
 use hph_wasm::Limits;
 use std::alloc::AllocError;
 

@@ -8,6 +8,7 @@ ghost use Rattle.hph_wenc.specs.Sections.{section_number};
 use crate::code::codes;
 use crate::functions::type_indices;
 use crate::put::{Put, put_bytes, put_vector};
+use hph_leb::{i32_bytes_are_shortest, u32_bytes_are_shortest};
 use hph_wasm::Module;
 use std::alloc::{AllocError, Global};
 
@@ -33,6 +34,9 @@ pub fn write(alloc: Global, m: &Module) -> Result<Vec<u8>, AllocError>
     ensures shortest { IfOk result (λ bytes. bytes.items ≡ spelling m.now) }
     ensures spelled { IfOk result (λ bytes. SpellsModule bytes.items m.now) }
 {
+    // that what is written of a number spells it
+    u32_bytes_are_shortest();
+    i32_bytes_are_shortest();
     let indices = type_indices(alloc, m.funcs.as_slice())?;
     let codes = codes(alloc, m.funcs.as_slice())?;
     let mut out = Vec::from_slice(alloc, &HEADER)?;

@@ -4,7 +4,7 @@ ghost use Rattle.std.specs.List.{AllByRecursion};
 ghost use Rattle.hph_wasm.specs.Leb128.{u32_bytes};
 ghost use Rattle.hph_wasm.specs.Spelling.{counted_bytes, vector_bytes};
 
-use crate::leb128::put_u32;
+use hph_leb::put_u32;
 use sqlite_items::Items;
 use std::alloc::AllocError;
 

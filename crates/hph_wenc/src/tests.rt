@@ -3,7 +3,6 @@ ghost use Rattle.std.specs.Prelude.{IfOk};
 ghost use Rattle.hph_wasm.specs.Spelling.{IsWritable};
 
 use crate::code::code;
-use crate::leb128::{put_i32, put_u32};
 use crate::write;
 use hph_wasm::{
     BlockType, Export, ExportDesc, Func, FuncType, Import, ImportDesc, Instr, Limits, Module, Name,
@@ -12,39 +11,6 @@ use hph_wasm::{
 use sqlite_items::Items;
 use std::alloc::{AllocError, Global};
 use std::test::Fail;
-
-#[test]
-fn writes_numbers_in_their_fewest_bytes(rt: HostRuntime) -> Result<(), Fail> {
-    let unsigned: [(u32, &[u8]); 5] = [
-        (0, &[0x00]),
-        (127, &[0x7F]),
-        (128, &[0x80, 0x01]),
-        (624485, &[0xE5, 0x8E, 0x26]),
-        (u32::MAX, &[0xFF, 0xFF, 0xFF, 0xFF, 0x0F]),
-    ];
-    for (value, bytes) in unsigned {
-        let mut out = Vec::new(rt.alloc());
-        put_u32(&mut out, value)?;
-        assert_eq!(rt; out.as_slice(), bytes, "at {value}");
-    }
-    let signed: [(i32, &[u8]); 9] = [
-        (63, &[0x3F]),
-        (127, &[0xFF, 0x00]),
-        (128, &[0x80, 0x01]),
-        (624485, &[0xE5, 0x8E, 0x26]),
-        (-1, &[0x7F]),
-        (-64, &[0x40]),
-        (-65, &[0xBF, 0x7F]),
-        (i32::MAX, &[0xFF, 0xFF, 0xFF, 0xFF, 0x07]),
-        (i32::MIN, &[0x80, 0x80, 0x80, 0x80, 0x78]),
-    ];
-    for (value, bytes) in signed {
-        let mut out = Vec::new(rt.alloc());
-        put_i32(&mut out, value)?;
-        assert_eq!(rt; out.as_slice(), bytes, "at {value}");
-    }
-    Ok(())
-}
 
 #[test]
 fn joins_equal_locals_and_ends_blocks(rt: HostRuntime) -> Result<(), Fail> {

@@ -1,5 +1,6 @@
 use Rattle.std.proofs.lemmas.List.{length-map}
 use Rattle.hph_wenc.proofs.ShortSections.{sections_short, codes_short, section_bytes-map, spelling-sections}
+use Rattle.hph_wenc.proofs.NumberLaws.{NumbersAreSpelled}
 use Rattle.hph_wenc.proofs.SpelledModule.{ModuleFits, module_spelled}
 use Rattle.hph_wenc.proofs.module.write.Goals as goal
 
@@ -42,6 +43,10 @@ fits_of c = record {
   segments = rw c.as_slice-7.ensures at c.in_ok-put_section-7.ensures.fit;
 }
 
+-- the laws of the numbers
+numbers_of : (c : goal.After-drop-indices-2) → NumbersAreSpelled
+numbers_of c = record { u32 = c.u32_bytes_are_shortest.ensures.spelled; i32 = c.i32_bytes_are_shortest.ensures.spelled }
+
 pub returns-clause-shortest : goal.returns-clause-shortest
 returns-clause-shortest c = rw (
   c.in_ok-put_section-7.ensures.put,
@@ -68,4 +73,4 @@ returns-clause-shortest c = rw (
 ) (spelling-sections c.args.m.now)
 
 pub returns-clause-spelled : goal.returns-clause-spelled
-returns-clause-spelled c = rw (returns-clause-shortest c) (module_spelled c.args.m.now c.requires (fits_of c))
+returns-clause-spelled c = rw (returns-clause-shortest c) (module_spelled (numbers_of c) c.args.m.now c.requires (fits_of c))
