@@ -1,9 +1,8 @@
 -- Arrays worked by the definitions. The comments are PHP.
-use Rattle.std.proofs.Common.{◌≡◌, ◌^◌, ℕ, false, List, [], ◌∷◌, Option, None, Some, refl, codes, pos, negsuc}
-use Rattle.hph_array.specs.declared.key.Key.{Key}
+use Rattle.std.proofs.Common.{◌≡◌, ◌^◌, ℕ, false, [], ◌∷◌, None, Some, refl, codes, pos, negsuc}
 use Rattle.hph_array.specs.declared.key.Key.TheVariants.{Int, Str}
 use Rattle.hph_array.specs.Key.{key_eq}
-use Rattle.hph_array.specs.Array.{Array, get, set, append, unset, last, pop}
+use Rattle.hph_array.specs.Array.{Array, set, append, unset, last, pop}
 
 -- $a = [];
 abbrev empty : Array ℕ
@@ -49,6 +48,7 @@ pop_a_lower_int = refl
 last_pair : last two.pairs ≡ Some (Str (codes "k"), 2)
 last_pair = refl
 
+-- Without pairs there is no last one.
 last_of_none : last {V = ℕ} [] ≡ None
 last_of_none = refl
 

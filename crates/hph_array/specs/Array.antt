@@ -1,6 +1,7 @@
 -- Arrays and the operations on them. Source: PHP manual, 'Arrays' and 'array_pop'; that the next key is never
 -- negative, and that there is none past the greatest int, is this project's own.
-use Rattle.std.specs.Prelude.{◌≡◌, ◌+◌, ◌-◌, ◌≤◌, ◌^◌, ◌==◌, ℕ, List, [], ◌∷◌, ◌++◌, Option, None, Some, cond, max, pos, negsuc, if◌then◌else◌, length, map}
+use Rattle.std.specs.Prelude.{◌≡◌, ◌+◌, ◌≤◌, ◌^◌, ◌==◌, ℕ, List, [], ◌∷◌, ◌++◌, Option, None, Some, max}
+use Rattle.std.specs.Prelude.{pos, negsuc, if◌then◌else◌, length, map}
 use Rattle.std.specs.Coded.{Coded, coded×, coded_list, coded_ℕ, code_by}
 use Rattle.std.specs.List.{AllByRecursion, IsDistinct}
 use Rattle.std.specs.Option.{option_map_or}
@@ -53,7 +54,7 @@ module _ {V : Type 0} where
   abbrev pub put : List (Key × V) → Key → V → List (Key × V)
   put [] key value = (key, value) ∷ []
   put (pair ∷ pairs) key value =
-      cond (key_eq key pair.0) ((pair.0, value) ∷ pairs) (pair ∷ put pairs key value)
+      if key_eq key pair.0 then (pair.0, value) ∷ pairs else pair ∷ put pairs key value
 
   -- `$a[key] = value`: the next key is then above an int key.
   abbrev pub set : Array V → Key → V → Array V

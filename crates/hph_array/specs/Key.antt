@@ -22,14 +22,17 @@ number_after (Int (pos n)) = n + 1
 number_after (Int (negsuc n)) = 0
 number_after (Str bytes) = 0
 
+-- the int of a key, or another one
 int_of : ℤ → Key → ℤ
 int_of default (Int a) = a
 int_of default (Str bytes) = default
 
+-- the bytes of a key that is a string
 bytes_of : Key → List ℕ
 bytes_of (Int a) = []
 bytes_of (Str bytes) = bytes
 
+-- whether a key is an int
 is_int : Key → Bool
 is_int (Int a) = true
 is_int (Str bytes) = false

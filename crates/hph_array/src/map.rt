@@ -1,4 +1,4 @@
-ghost use Rattle.std.specs.Prelude.{◌≡◌, [], ◌∷◌, ◌++◌, ◌==◌, ◌<◌, ◌≤◌, ◌^◌, ◌↔◌, length, max, false, OnOk, OnErr, IfOk, IsOk, IsSome, Err, Some, slice_get, slice_set};
+ghost use Rattle.std.specs.Prelude.{◌≡◌, [], ◌∷◌, ◌++◌, ◌==◌, ◌<◌, ◌≤◌, ◌^◌, ◌↔◌, length, false, OnOk, OnErr, IfOk, IsOk, IsSome, Err, Some, slice_get, slice_set};
 ghost use Rattle.std.specs.Option.{option_copied, option_map, is_some};
 ghost use Rattle.indexmap.specs.IndexSet.{contains};
 ghost use Rattle.hph_array.specs.Key.{key_eq};
@@ -19,7 +19,19 @@ pub enum AppendFault {
     NoMemory,
 }
 
-/// An array (PHP manual, 'Arrays'): pairs of distinct keys and values in order, and the key of the next append.
+impl From<AllocError> for AppendFault {
+    ghost use Rattle.std.specs.Prelude.{◌≡◌};
+    ghost use Rattle.hph_array.specs.declared.map.AppendFault.TheVariants.{NoMemory};
+
+    ghost from_gives = { λ _ fault. fault ≡ NoMemory };
+
+    fn from(_error: AllocError) -> AppendFault {
+        AppendFault::NoMemory
+    }
+}
+
+/// An array (PHP manual, 'Arrays'): pairs of distinct keys and values in order, and the key of
+/// the next append.
 #[derive(Drop)]
 pub struct OrdMap<V> {
     keys: IndexSet<Key>,
@@ -68,7 +80,7 @@ impl<V> OrdMap<V> {
         self.len() == 0
     }
 
-    /// The key of the next append. It is 2^63, which is no int, where the array can't be appended to.
+    /// The key of the next append. It is 2^63, which is no int, where nothing can be appended.
     pub fn next_key(&self) -> u64
         ensures { result ≡ self.now.next_key }
     {
@@ -85,7 +97,7 @@ impl<V> OrdMap<V> {
 
     /// The pair at a place, counted from 0.
     pub fn at(&self, index: usize) -> Option<(&Key, &V)>
-        ensures { option_map (λ pair. (pair.0.now, pair.1.now)) result ≡ slice_get self.now.pairs index }
+        ensures { option_map (λ p. (p.0.now, p.1.now)) result ≡ slice_get self.now.pairs index }
     {
         let key = self.keys.get_index(index)?;
         let value = item(&self.values, index)?;
@@ -102,21 +114,17 @@ impl<V: Drop> OrdMap<V> {
         ensures there { IsSome (get self.old key) → IsOk result }
     {
         let past = key.number_after();
-        match self.keys.get_index_of(&key) {
-            Some(at) => {
-                self.values[at] = value;
-                return Ok(());
-            }
-            None => {
-                push_pair(&mut self.keys, &mut self.values, key, value)?;
-                self.next = larger(self.next, past);
-                return Ok(());
-            }
+        if let Some(at) = self.keys.get_index_of(&key) {
+            self.values[at] = value;
+            return Ok(());
         }
+        push_pair(&mut self.keys, &mut self.values, key, value)?;
+        self.next = self.next.max(past);
+        Ok(())
     }
 
-    /// Puts a value last, at the next key (PHP manual, 'Arrays'). Full where there is no next key, NoMemory where
-    /// there is no memory; the array is then unchanged.
+    /// Puts a value last, at the next key (PHP manual, 'Arrays'). Full where the next key is 2^63,
+    /// NoMemory where there is no memory; the array is then unchanged.
     pub fn append(&mut self, value: V) -> Result<(), AppendFault>
         ensures ok { OnOk result (self.new ≡ append self.old value) }
         ensures err { OnErr result (self.new ≡ self.old) }
@@ -126,56 +134,44 @@ impl<V: Drop> OrdMap<V> {
             return Err(AppendFault::Full);
         }
         let key = Key::Int(self.next as i64);
-        match push_pair(&mut self.keys, &mut self.values, key, value) {
-            Ok(()) => {
-                self.next += 1;
-                return Ok(());
-            }
-            Err(_) => return Err(AppendFault::NoMemory),
-        }
+        push_pair(&mut self.keys, &mut self.values, key, value)?;
+        self.next += 1;
+        Ok(())
     }
 
-    /// Removes the pair of a key and says whether there was one. The next key stays (PHP manual, 'Arrays').
+    /// Removes the pair of a key, and says whether there was one. The next key stays
+    /// (PHP manual, 'Arrays').
     pub fn unset(&mut self, key: &Key) -> bool
         ensures rest { self.new ≡ unset self.old key.now }
         ensures found { result ≡ is_some (get self.old key.now) }
     {
-        match self.keys.shift_remove_full(key) {
-            Some((at, _)) => {
-                self.values.remove(at);
-                return true;
-            }
-            None => return false,
-        }
+        let Some((at, _)) = self.keys.shift_remove_full(key) else {
+            return false;
+        };
+        self.values.remove(at);
+        true
     }
 
-    /// Removes the last pair and gives it (PHP manual, 'array_pop'). The next key falls to its key if that is an
-    /// int one below it.
+    /// Removes the last pair and gives it (PHP manual, 'array_pop'). The next key falls to its key
+    /// if that is one below it and isn't negative.
     pub fn pop(&mut self) -> Option<(Key, V)>
         ensures value { result ≡ last self.old.pairs }
         ensures rest { self.new ≡ pop self.old }
     {
-        let Some(key) = self.keys.pop() else {
-            return None;
-        };
-        match self.values.pop() {
-            Some(value) => {
-                self.next = fallen_key(self.next, &key);
-                return Some((key, value));
-            }
-            None => return None,
-        }
+        let key = self.keys.pop()?;
+        let value = self.values.pop()?;
+        self.next = fallen_key(self.next, &key);
+        Some((key, value))
     }
 
-    /// Gives the value at a key and leaves `empty` in its place, so that the value can be changed without a copy.
+    /// Gives the value at a key and leaves `empty` in its place, so that the value can be changed
+    /// without a copy.
     pub fn take(&mut self, key: &Key, empty: V) -> Option<V>
         ensures value { result ≡ get self.old key.now }
         ensures rest { self.new ≡ replace self.old key.now empty }
     {
-        match self.keys.get_index_of(key) {
-            Some(at) => return Some(exchange(&mut self.values, at, empty)),
-            None => return None,
-        }
+        let place = self.keys.get_index_of(key)?;
+        Some(exchange(&mut self.values, place, empty))
     }
 }
 
@@ -230,12 +226,6 @@ fn exchange<V: Drop>(values: &mut Vec<V>, at: usize, value: V) -> V
     ensures new { values.new.items ≡ slice_set values.old.items at value }
 {
     mem::replace(&mut values[at], value)
-}
-
-fn larger(a: u64, b: u64) -> u64
-    ensures { result ≡ max a b }
-{
-    a.max(b)
 }
 
 // The next key after a pop of this key.

@@ -82,17 +82,22 @@ static SEQUENCES: [Sequence; 30] = sequences! {
         => [(Int(0), 2), (Str(""), 3), (Int(-7), 6)], 4;
     [Append(1), Set(Int(5), 2), Append(3), Append(4), Append(5), Append(6), Pop]
         => [(Int(0), 1), (Int(5), 2), (Int(6), 3), (Int(7), 4), (Int(8), 5)], 9;
-    [Set(Str("k"), 1), Set(Int(1), 2), Unset(Int(3)), Set(Int(3), 4), Unset(Int(3)), Append(6), Append(7), Append(8)]
+    [Set(Str("k"), 1), Set(Int(1), 2), Unset(Int(3)), Set(Int(3), 4), Unset(Int(3)), Append(6),
+        Append(7), Append(8)]
         => [(Str("k"), 1), (Int(1), 2), (Int(4), 6), (Int(5), 7), (Int(6), 8)], 7;
     [Append(1), Pop, Append(3), Append(4), Unset(Int(-7)), Append(6), Pop, Append(8)]
         => [(Int(0), 3), (Int(1), 4), (Int(2), 8)], 3;
-    [Set(Int(i64::MAX), 1), Pop, Append(3), Set(Int(8), 4), AppendRefused, Pop, AppendRefused, AppendRefused]
+    [Set(Int(i64::MAX), 1), Pop, Append(3), Set(Int(8), 4), AppendRefused, Pop,
+        AppendRefused, AppendRefused]
         => [(Int(i64::MAX), 3)], 1 << 63;
-    [Set(Str(""), 1), Set(Int(9223372036854775806), 2), Append(3), Pop, Append(5), Unset(Str("")), Set(Str("a"), 7), Set(Int(5), 8)]
+    [Set(Str(""), 1), Set(Int(9223372036854775806), 2), Append(3), Pop, Append(5),
+        Unset(Str("")), Set(Str("a"), 7), Set(Int(5), 8)]
         => [(Int(9223372036854775806), 2), (Int(i64::MAX), 5), (Str("a"), 7), (Int(5), 8)], 1 << 63;
-    [Append(1), Append(2), Set(Int(i64::MAX), 3), Pop, Set(Int(8), 5), Append(6), AppendRefused, Set(Str("a"), 8)]
+    [Append(1), Append(2), Set(Int(i64::MAX), 3), Pop, Set(Int(8), 5), Append(6),
+        AppendRefused, Set(Str("a"), 8)]
         => [(Int(0), 1), (Int(1), 2), (Int(8), 5), (Int(i64::MAX), 6), (Str("a"), 8)], 1 << 63;
-    [Append(1), Unset(Int(0)), Pop, Set(Int(9223372036854775806), 4), Append(5), AppendRefused, Set(Int(5), 8), AppendRefused]
+    [Append(1), Unset(Int(0)), Pop, Set(Int(9223372036854775806), 4), Append(5),
+        AppendRefused, Set(Int(5), 8), AppendRefused]
         => [(Int(9223372036854775806), 4), (Int(i64::MAX), 5), (Int(5), 8)], 1 << 63;
 };
 

@@ -4,7 +4,8 @@ use Rattle.hph_array.proofs.MapSteps.{whole-IsArray}
 use Rattle.hph_array.proofs.map.OrdMap.len.Goals as goal
 
 pub returns-clause-value : goal.returns-clause-value
-returns-clause-value g c = rw (← c.self.view_is) (c.len.ensures.len ∙ sym (length-zip _ _ c.self.invariant.same_length))
+returns-clause-value g c =
+    rw (← c.self.view_is) (c.len.ensures.len ∙ sym (length-zip _ _ c.self.invariant.same_length))
 
 pub returns-clause-array : goal.returns-clause-array
 returns-clause-array g c =

@@ -1,0 +1,13 @@
+pub mod TokenExamples
+pub mod ExpressionNesting
+pub mod PositiveNesting
+pub mod Fits
+pub mod ExpressionExamples
+pub mod StatementExamples
+pub mod TreeExamples
+pub mod RefusedExamples
+pub mod Fronts
+pub mod ExpressionFronts
+pub mod DeclarationFronts
+pub mod StatementFronts
+pub mod StatementNestingLaws
