@@ -1,8 +1,8 @@
 //! Tokens and syntax trees of PHP's profile, and what a front end can refuse.
 //!
 //! Rust has the types and the nesting of a tree; specs/ has the grammars: which bytes spell which tokens, and
-//! which tokens spell which tree. The crates that read programs are proved against these definitions, in both
-//! directions. docs/LANGUAGE.md says the same in words.
+//! which tokens spell which tree. They are what readers of programs are to be proved against, in both directions.
+//! docs/LANGUAGE.md says the same in words.
 #![tactic(auto)]
 
 mod class;
