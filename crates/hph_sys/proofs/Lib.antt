@@ -1,0 +1,4 @@
+pub mod LeastLaws
+pub mod LeastThere
+pub mod TwoLeast
+pub mod RingLeast

@@ -1,0 +1,5 @@
+use Rattle.hph_sys.proofs.LeastLaws.{least_is_the_meet}
+use Rattle.hph_sys.proofs.laws.least_is_the_meet.Goals as goal
+
+pub returns : goal.returns
+returns c = least_is_the_meet

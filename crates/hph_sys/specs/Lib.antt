@@ -1,0 +1,9 @@
+pub mod Typings
+pub mod Shape
+pub mod Least
+pub mod Lawful
+pub mod Laws
+pub mod AskedLaws
+pub mod Two
+pub mod TwoLaws
+pub mod Ring
