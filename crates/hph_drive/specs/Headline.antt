@@ -1,7 +1,7 @@
 -- The compiler theorem: what the bytes of a compiled file do. This project's own.
 use Rattle.std.specs.Prelude.{◌≡◌, ℕ, List}
 use Rattle.hph_wasm.specs.declared.module.Module.{Module}
-use Rattle.hph_wasm.specs.Grammar.{SpellsModule}
+use Rattle.hph_wasm.specs.ModuleGrammar.{SpellsModule}
 use Rattle.hph_wasm.specs.Spelling.{spelling}
 use Rattle.hph_echo.specs.EchoFile.{IsEchoFile}
 use Rattle.hph_lowm.specs.Layout.{module_of}

@@ -2,8 +2,10 @@
 use Rattle.std.proofs.Common.{◌≤◌, ℕ, ◌+◌, ◌*◌, ◌^◌, List, [], ◌∷◌, length, refl, arith}
 use Rattle.std.specs.List.{concat}
 use Rattle.hph_wasm.specs.declared.types.ValType.TheVariants.{I32}
-use Rattle.hph_wasm.specs.Validity.{IsValid, IsSequence, IsSegment, Context}
-use Rattle.hph_wasm.specs.Run.{IsLinked, SegmentsFit}
+use Rattle.hph_wasm.specs.Validity.{IsSequence, Context}
+use Rattle.hph_wasm.specs.ModuleValidity.{IsValid, IsSegment}
+use Rattle.hph_wasm.specs.Instantiation.{SegmentsFit}
+use Rattle.hph_wasm.specs.Run.{IsLinked}
 use Rattle.hph_wasm.specs.Php1.{php1}
 use Rattle.std.specs.List.{AllByRecursion}
 use Rattle.hph_lowm.specs.Layout.{pages_of, write_type, main_type, prints_from, segments_of, module_of}
@@ -27,18 +29,25 @@ prints_are_typed all c place (text ∷ texts) = (
 
 segments_are_valid : (texts : List (List ℕ)) → AllByRecursion (IsSegment (module_of texts)) (segments_of texts)
 segments_are_valid [] = tt
-segments_are_valid (text ∷ texts) = ((omega arith, (I32 ∷ [], ([], refl, refl), refl), (tt, tt)), tt)
+segments_are_valid (text ∷ texts) = ((omega arith, ((I32 ∷ [], ([], refl, refl), refl), (tt, tt))), tt)
 
 pub layout_is_valid : (texts : List (List ℕ)) → length (concat texts) ≤ 2 ^ 20 → IsValid (module_of texts)
 layout_is_valid texts small = record {
-  types = (omega arith, (omega arith, tt));
-  imports = (omega arith, tt);
+  outside = record {
+    types = (omega arith, (omega arith, tt));
+    imports = (omega arith, tt);
+    func_types = (omega arith, tt);
+    tables = tt;
+    one_table = omega arith;
+    memories = ((few_pages (length (concat texts)) small, tt), tt);
+    one_memory = omega arith;
+    globals = tt;
+    exports = (omega arith, tt);
+    named_once = λ i j d less small same. omega arith;
+    elements = tt;
+    segments = segments_are_valid texts;
+  };
   funcs = ((main_type, refl, prints_are_typed texts _ 0 texts), tt);
-  memories = ((few_pages (length (concat texts)) small, tt), tt);
-  one_memory = omega arith;
-  exports = (omega arith, tt);
-  named_once = λ i j d less small same. omega arith;
-  segments = segments_are_valid texts;
 }
 
 pub layout_is_linked : (texts : List (List ℕ)) → IsLinked php1 (module_of texts)

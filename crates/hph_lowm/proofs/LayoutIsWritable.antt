@@ -1,15 +1,15 @@
 -- The module of a program that isn't long can be written.
-use Rattle.std.proofs.Common.{◌≤◌, ℕ, ◌+◌, ◌*◌, ◌^◌, List, [], ◌∷◌, ◌++◌, length, flat_map, arith, length-append}
+use Rattle.std.proofs.Common.{◌≡◌, ◌≤◌, ℕ, ◌+◌, ◌*◌, ◌^◌, List, [], ◌∷◌, ◌++◌, length, flat_map, arith, length-append, refl}
 use Rattle.std.specs.Prelude.{pos, None}
 use Rattle.std.specs.List.{concat}
 use Rattle.hph_wasm.specs.Leb128.{u32_bytes}
-use Rattle.hph_wasm.specs.Grammar.{header}
-use Rattle.hph_wasm.specs.Spelling.{counted_bytes, func_type_bytes, limits_bytes, instr_bytes, expression_bytes, import_bytes, export_bytes, locals_bytes, run_bytes, code_bytes, segment_bytes, section_bytes, type_index_bytes, spelling, IsWritable}
+use Rattle.hph_wasm.specs.ModuleGrammar.{header}
+use Rattle.hph_wasm.specs.Spelling.{counted_bytes, func_type_bytes, limits_bytes, instr_bytes, expression_bytes, import_bytes, export_bytes, locals_bytes, run_bytes, code_bytes, segment_bytes, section_bytes, type_index_bytes, table_type_bytes, global_bytes, element_bytes, spelling, IsWritable}
 use Rattle.hph_wasm.specs.declared.instr.Instr.{I32Const, Call}
 use Rattle.hph_wasm.specs.declared.module.Func.{Func}
 use Rattle.hph_wasm.specs.declared.module.Module.{Module}
 use Rattle.hph_lowm.specs.Layout.{pages_of, write_type, main_type, write_import, main_export, prints_from, segments_of, module_of}
-use Rattle.hph_lowm.proofs.SpellingLengths.{u32_short, counted_short, vector_short, joined_short, one_short, two_short, func_type_short, import_short, export_short, limits_short, const_short, call_short}
+use Rattle.hph_lowm.proofs.SpellingLengths.{u32_short, counted_short, vector_short, joined_short, none_short, one_short, two_short, func_type_short, import_short, export_short, limits_short, const_short, call_short}
 
 -- three instructions for each text
 prints_short : (place : ℕ) (texts : List (List ℕ)) → length (flat_map instr_bytes (prints_from place texts)) ≤ 18 * length texts
@@ -54,20 +54,25 @@ segments_short (text ∷ texts) = omega (arith, one_short 11 segment_bytes (reco
 type_index_short : (f : Func) → length (type_index_bytes f) ≤ 5
 type_index_short f = u32_short f.ty
 
--- a module is as long as its sections
-sections_short : (m : Module) (n1 n2 n3 n5 n7 n10 n11 : ℕ) → length (section_bytes 1 func_type_bytes m.types) ≤ n1 → length (section_bytes 2 import_bytes m.imports) ≤ n2
+-- a module without tables, globals and element segments is as long as its other sections
+sections_short : (m : Module) → m.tables ≡ [] → m.globals ≡ [] → m.elements ≡ [] → (n1 n2 n3 n5 n7 n10 n11 : ℕ)
+    → length (section_bytes 1 func_type_bytes m.types) ≤ n1 → length (section_bytes 2 import_bytes m.imports) ≤ n2
     → length (section_bytes 3 type_index_bytes m.funcs) ≤ n3 → length (section_bytes 5 limits_bytes m.memories) ≤ n5 → length (section_bytes 7 export_bytes m.exports) ≤ n7
     → length (section_bytes 10 code_bytes m.funcs) ≤ n10 → length (section_bytes 11 segment_bytes m.segments) ≤ n11 → length (spelling m) ≤ 8 + (n1 + (n2 + (n3 + (n5 + (n7 + (n10 + n11))))))
 unfolding spelling
-sections_short m n1 n2 n3 n5 n7 n10 n11 h1 h2 h3 h5 h7 h10 h11 =
-    joined_short header _ 8 _ (omega arith) (joined_short (section_bytes 1 func_type_bytes m.types) _ n1 _ h1 (joined_short (section_bytes 2 import_bytes m.imports) _ n2 _ h2 (joined_short (section_bytes 3 type_index_bytes m.funcs) _ n3 _ h3
-    (joined_short (section_bytes 5 limits_bytes m.memories) _ n5 _ h5 (joined_short (section_bytes 7 export_bytes m.exports) _ n7 _ h7 (joined_short (section_bytes 10 code_bytes m.funcs) (section_bytes 11 segment_bytes m.segments) n10 n11 h10 h11))))))
+sections_short m no_tables no_globals no_elements n1 n2 n3 n5 n7 n10 n11 h1 h2 h3 h5 h7 h10 h11 =
+    let h : length (spelling m) ≤ 8 + (n1 + (n2 + (n3 + (0 + (n5 + (0 + (n7 + (0 + (n10 + n11))))))))) = joined_short header _ 8 _ (omega arith) (joined_short (section_bytes 1 func_type_bytes m.types) _ n1 _ h1 (joined_short (section_bytes 2 import_bytes m.imports) _ n2 _ h2 (joined_short (section_bytes 3 type_index_bytes m.funcs) _ n3 _ h3
+    (joined_short (section_bytes 4 table_type_bytes m.tables) _ 0 _ (none_short 4 table_type_bytes m.tables no_tables) (joined_short (section_bytes 5 limits_bytes m.memories) _ n5 _ h5
+    (joined_short (section_bytes 6 global_bytes m.globals) _ 0 _ (none_short 6 global_bytes m.globals no_globals) (joined_short (section_bytes 7 export_bytes m.exports) _ n7 _ h7
+    (joined_short (section_bytes 9 element_bytes m.elements) _ 0 _ (none_short 9 element_bytes m.elements no_elements)
+    (joined_short (section_bytes 10 code_bytes m.funcs) (section_bytes 11 segment_bytes m.segments) n10 n11 h10 h11)))))))))
+    in omega (arith, h)
 
 pub spelling_short : (texts : List (List ℕ)) → length (spelling (module_of texts)) ≤ 8 + (41 + (51 + (16 + (51 + (51 + (22 + 18 * length texts + (51 + length (concat texts))))))))
 unfolding main_of
-spelling_short texts = sections_short (module_of texts) 41 51 16 51 51 (22 + 18 * length texts) (51 + length (concat texts))
+spelling_short texts = sections_short (module_of texts) refl refl refl 41 51 16 51 51 (22 + 18 * length texts) (51 + length (concat texts))
     (two_short 1 func_type_bytes write_type main_type 15 (func_type_short write_type (omega arith) (omega arith)) (func_type_short main_type (omega arith) (omega arith)))
-    (one_short 2 import_bytes write_import 40 (import_short write_import (omega arith) (omega arith)))
+    (one_short 2 import_bytes write_import 40 (import_short write_import 0 refl (omega arith) (omega arith)))
     (one_short 3 type_index_bytes (main_of texts) 5 (type_index_short (main_of texts)))
     (one_short 5 limits_bytes (record { min = pages_of (length (concat texts)); max = None }) 40 (limits_short (pages_of (length (concat texts)))))
     (one_short 7 export_bytes main_export 40 (export_short main_export (omega arith)))

@@ -10,7 +10,8 @@ use Rattle.hph_wasm.specs.declared.module.Module.{Module}
 use Rattle.hph_wasm.specs.Outcome.{End, Done, More}
 use Rattle.hph_wasm.specs.Configuration.{Setting, Configuration, Running}
 use Rattle.hph_wasm.specs.Reduction.{reduce}
-use Rattle.hph_wasm.specs.Run.{wasm, outcome_of, zeros, with_segments, memory_at_start, start}
+use Rattle.hph_wasm.specs.Instantiation.{zeros, with_segments, memory_at_start}
+use Rattle.hph_wasm.specs.Run.{wasm, outcome_of, start}
 use Rattle.hph_wasm.specs.Php1.{php1, PhpStop}
 use Rattle.hph_wasm.specs.Agrees.{Follows}
 use Rattle.hph_lowm.specs.Layout.{pages_of, prints_from, segments_of, module_of}
@@ -26,7 +27,7 @@ printing memory output = record {
   locals = [];
   labels = [];
   frames = record { function = 1; arity = 0; values = []; rest = []; locals = []; labels = [] } ∷ [];
-  store = record { host = output; memory = memory };
+  store = record { host = output; memory = memory; globals = [] };
 }
 
 module _ (in_turn : InTurn) (program : List (List ℕ)) (memory : List ℕ) where
@@ -64,7 +65,7 @@ module _ (in_turn : InTurn) (program : List (List ℕ)) (memory : List ℕ) wher
       ∙ ap (λ out. Running [] [] (printing memory out)) (append_assoc output text (concat texts))
 
 -- the memory begins with the texts
-memory_lies : (pages : ℕ) (texts : List (List ℕ)) → (others : List ℕ) × (with_segments (segments_of texts) (zeros pages) ≡ concat texts ++ others)
+memory_lies : (pages : ℕ) (texts : List (List ℕ)) → (others : List ℕ) × (with_segments [] (segments_of texts) (zeros pages) ≡ concat texts ++ others)
 memory_lies pages [] = (zeros pages, refl)
 memory_lies pages (text ∷ texts) = (drop (0 + length (concat (text ∷ texts))) (zeros pages), refl)
 
@@ -76,7 +77,7 @@ reductions texts = 1 + (4 * length texts + 1)
 module_ends : InTurn → (texts : List (List ℕ)) → wasm php1 [] (module_of texts) (reductions texts) ≡ record { output = concat texts; end = Done }
 unfolding reductions
 module_ends in_turn texts =
-    let memory = memory_at_start (module_of texts).memories (module_of texts).segments in
+    let memory = memory_at_start (module_of texts) in
     let lies = memory_lies (pages_of (length (concat texts))) texts in
     let main : Configuration (List ℕ) PhpStop = Running (prints_from 0 texts) [] (printing memory []) in
     ap (outcome_of php1 (module_of texts)) (

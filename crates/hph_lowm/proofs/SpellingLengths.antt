@@ -1,12 +1,11 @@
 -- How long the spellings of a module's parts are at most.
-use Rattle.std.proofs.Common.{◌≡◌, ◌≤◌, ℕ, zero, suc, ◌+◌, ◌/◌, ◌%◌, List, [], ◌∷◌, ◌++◌, length, flat_map, cond, true, false, arith, length-append}
+use Rattle.std.proofs.Common.{◌≡◌, ◌≤◌, ℕ, zero, suc, ◌+◌, ◌/◌, ◌%◌, List, [], ◌∷◌, ◌++◌, length, flat_map, cond, true, false, arith, length-append, subst, sym}
 use Rattle.std.specs.Prelude.{ℤ, nat_lt, None}
 use Rattle.hph_wasm.specs.Leb128.{shortest_unsigned, shortest_signed, u32_bytes, i32_bytes, low_seven, above_seven, fits_seven}
 use Rattle.hph_wasm.specs.Spelling.{vector_bytes, counted_bytes, value_type_bytes, func_type_bytes, limits_bytes, instr_bytes, import_bytes, import_desc_bytes, export_bytes, export_desc_bytes, section_bytes}
 use Rattle.hph_wasm.specs.declared.types.ValType.{ValType}
 use Rattle.hph_wasm.specs.declared.types.FuncType.{FuncType}
 use Rattle.hph_wasm.specs.declared.instr.Instr.{I32Const, Call}
-use Rattle.hph_wasm.specs.declared.module.ImportDesc.{ImportDesc}
 use Rattle.hph_wasm.specs.declared.module.ImportDesc.TheVariants as import_desc
 use Rattle.hph_wasm.specs.declared.module.Import.{Import}
 use Rattle.hph_wasm.specs.declared.module.ExportDesc.{ExportDesc}
@@ -49,7 +48,10 @@ section_short id f (x ∷ xs) = omega (arith, counted_short (vector_bytes f (x �
 pub joined_short : (front rest : List ℕ) (m n : ℕ) → length front ≤ m → length rest ≤ n → length (front ++ rest) ≤ m + n
 joined_short front rest m n p q = omega (arith, length-append front rest)
 
--- a section of one thing, and of two
+-- a section of nothing, of one thing, and of two
+pub none_short : {X : Type 0} (id : ℕ) (f : X → List ℕ) (xs : List X) → xs ≡ [] → length (section_bytes id f xs) ≤ 0
+none_short id f xs none = subst (λ ys. length (section_bytes id f ys) ≤ 0) (sym none) (omega arith)
+
 pub one_short : {X : Type 0} (id : ℕ) (f : X → List ℕ) (x : X) (n : ℕ) → length (f x) ≤ n → length (section_bytes id f (x ∷ [])) ≤ 11 + n
 one_short id f x n h = omega (arith, section_short id f (x ∷ []), length-append (f x) [])
 
@@ -66,21 +68,24 @@ values_short ts h = omega (arith, vector_short value_type_bytes ts, values_lengt
 pub func_type_short : (ty : FuncType) → length ty.params ≤ 2 → length ty.results ≤ 2 → length (func_type_bytes ty) ≤ 15
 func_type_short ty p q = let both = joined_short (vector_bytes value_type_bytes ty.params) (vector_bytes value_type_bytes ty.results) 7 7 (values_short ty.params p) (values_short ty.results q) in omega arith
 
-import_desc_short : (desc : ImportDesc) → length (import_desc_bytes desc) ≤ 6
-import_desc_short (import_desc.Func ty) = let h = u32_short ty in omega arith
+import_desc_short : (ty : ℕ) → length (import_desc_bytes (import_desc.Func ty)) ≤ 6
+import_desc_short ty = let h = u32_short ty in omega arith
 
-pub import_short : (i : Import) → length i.module ≤ 9 → length i.name ≤ 9 → length (import_bytes i) ≤ 40
-import_short i p q = omega (
+pub import_short : (i : Import) (ty : ℕ) → i.desc ≡ import_desc.Func ty → length i.module ≤ 9 → length i.name ≤ 9 → length (import_bytes i) ≤ 40
+import_short i ty function p q = omega (
   arith,
   length-append (counted_bytes i.module) (counted_bytes i.name ++ import_desc_bytes i.desc),
   length-append (counted_bytes i.name) (import_desc_bytes i.desc),
   counted_short i.module,
   counted_short i.name,
-  import_desc_short i.desc,
+  subst (λ desc. length (import_desc_bytes desc) ≤ 6) (sym function) (import_desc_short ty),
 )
 
 export_desc_short : (desc : ExportDesc) → length (export_desc_bytes desc) ≤ 6
 export_desc_short (export_desc.Func func) = let h = u32_short func in omega arith
+export_desc_short (export_desc.Table table) = let h = u32_short table in omega arith
+export_desc_short (export_desc.Memory memory) = let h = u32_short memory in omega arith
+export_desc_short (export_desc.Global global) = let h = u32_short global in omega arith
 
 pub export_short : (e : Export) → length e.name ≤ 9 → length (export_bytes e) ≤ 40
 export_short e p = omega (arith, length-append (counted_bytes e.name) (export_desc_bytes e.desc), counted_short e.name, export_desc_short e.desc)

@@ -1,8 +1,9 @@
 -- When a module does what a program does.
 use Rattle.std.specs.Prelude.{ℕ, List, []}
 use Rattle.hph_wasm.specs.declared.module.Module.{Module}
-use Rattle.hph_wasm.specs.Validity.{IsValid}
-use Rattle.hph_wasm.specs.Run.{wasm, IsLinked, SegmentsFit}
+use Rattle.hph_wasm.specs.ModuleValidity.{IsValid}
+use Rattle.hph_wasm.specs.Instantiation.{SegmentsFit}
+use Rattle.hph_wasm.specs.Run.{wasm, IsLinked}
 use Rattle.hph_wasm.specs.Php1.{php1}
 use Rattle.hph_wasm.specs.Agrees.{Agrees}
 use Rattle.hph_lowm.specs.Program.{php, cost}

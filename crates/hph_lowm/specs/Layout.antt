@@ -45,7 +45,10 @@ module_of texts = record {
   types = write_type ∷ main_type ∷ [];
   imports = write_import ∷ [];
   funcs = record { ty = 1; locals = []; body = prints_from 0 texts } ∷ [];
+  tables = [];
   memories = record { min = pages_of (length (concat texts)); max = None } ∷ [];
+  globals = [];
   exports = main_export ∷ [];
+  elements = [];
   segments = segments_of texts;
 }

@@ -53,8 +53,11 @@ fn laid_out(alloc: Global, texts: &[Items<u8>]) -> Result<Module, AllocError>
         types: types(alloc)?,
         imports: one(alloc, write_import(alloc)?)?,
         funcs: one(alloc, main)?,
+        tables: Items::new(alloc),
         memories: one(alloc, memory)?,
+        globals: Items::new(alloc),
         exports: one(alloc, main_export(alloc)?)?,
+        elements: Items::new(alloc),
         segments: segments(alloc, texts, pool)?,
     })
 }

@@ -8,7 +8,8 @@ use Rattle.hph_wasm.proofs.Leb128Laws.{unsigned_form}
 -- as many things, in order
 each_alike : {X : Type 0} {P : X → Grammar} → OneForm P → (xs ys : List X) (f g r s : List ℕ) → length xs ≡ length ys →
     Each P xs f → Each P ys g → f ++ r ≡ g ++ s → Alike xs ys f g r s
-each_alike o [] [] f g r s count p q e = record { thing = refl; spelling = p ∙ sym q; behind = ap (λ l. l ++ r) (sym p) ∙ e ∙ ap (λ l. l ++ s) q }
+each_alike o [] [] f g r s count p q e = record
+    { thing = refl; spelling = p ∙ sym q; behind = ap (λ l. l ++ r) (sym p) ∙ e ∙ ap (λ l. l ++ s) q }
 each_alike o [] (y ∷ ys) f g r s count p q e = absurd (omega arith)
 each_alike o (x ∷ xs) [] f g r s count p q e = absurd (omega arith)
 each_alike o (x ∷ xs) (y ∷ ys) f g r s count p q e = map-Alike (λ pair. pair.0 ∷ pair.1) (pairs_alike f g r s p q e
@@ -57,5 +58,10 @@ sized_form o = record {
   alike = λ x y f g r s p q e. map-Alike (λ pair. pair.1) (pairs_alike f g r s (size_then f p) (size_then g q) e
       ((unsigned_form 32).alike (length p.body) (length q.body) p.size q.size (p.body ++ r) (q.body ++ s) p.counted q.counted)
       (λ count e. let a = bytes_alike p.body q.body r s count e in
-      record { thing = (o.alike x y p.body q.body [] [] p.inside q.inside (ap (λ l. l ++ []) a.spelling)).thing; spelling = a.spelling; behind = a.behind }));
+      record {
+        thing = (o.alike x y p.body q.body [] [] p.inside q.inside (ap (λ l. l ++ []) a.spelling)).thing;
+        spelling =
+            a.spelling;
+        behind = a.behind;
+      }));
 }

@@ -12,12 +12,13 @@ use Rattle.hph_wasm.specs.declared.module.ExportDesc.TheVariants as export_desc
 use Rattle.hph_wasm.specs.declared.module.Func.{Func}
 use Rattle.hph_wasm.specs.declared.module.Module.{Module}
 use Rattle.hph_wasm.specs.Values.{i32_bits}
-use Rattle.hph_wasm.specs.Validity.{IsValid, IsFunc, IsInstr, IsSequence, Context, under_label, body_context}
+use Rattle.hph_wasm.specs.Validity.{IsFunc, IsInstr, IsSequence, Context, under_label, body_context}
+use Rattle.hph_wasm.specs.ModuleValidity.{IsValid}
+use Rattle.hph_wasm.specs.Instantiation.{zeros, SegmentsFit}
 use Rattle.hph_wasm.specs.Outcome.{Done, More, Stopped, Trap}
-use Rattle.hph_wasm.specs.Run.{wasm, zeros, IsLinked, SegmentsFit}
+use Rattle.hph_wasm.specs.Run.{wasm, invoked, IsLinked}
 use Rattle.hph_wasm.specs.Php1.{php1, Misuse}
-use Rattle.hph_wasm.proofs.InstructionRows.{list_of-row_of}
-use Rattle.hph_wasm.proofs.Rows.{valid-block, size-block}
+use Rattle.hph_wasm.proofs.Rows.{listed, valid-block, size-block}
 
 -- The 32 bits of the least number and of -1.
 bits_of_least : i32_bits (negsuc 2147483647) ≡ 2147483648
@@ -44,8 +45,11 @@ with_main body = record {
   types = write_type ∷ no_type ∷ [];
   imports = record { «module» = codes "php1"; name = codes "write"; desc = import_desc.Func 0 } ∷ [];
   funcs = main body ∷ [];
+  tables = [];
   memories = record { min = 1; max = None } ∷ [];
+  globals = [];
   exports = record { name = codes "main"; desc = export_desc.Func 1 } ∷ [];
+  elements = [];
   segments = record { memory = 0; offset = I32Const (pos 0) ∷ []; bytes = codes "3" } ∷ [];
 }
 
@@ -74,15 +78,20 @@ three_after_six : wasm php1 [] (with_main write_three) 6 ≡ record { output = c
 unfolding zeros
 three_after_six = refl
 
+-- Only main is a function of the module's own.
+main_is_entered : invoked php1 [] (with_main write_three) 6 ≡ 1 ∷ []
+unfolding zeros
+main_is_entered = refl
+
 -- Entering a block is a reduction.
 nested_after_seven : wasm php1 [] (with_main (in_block write_three)) 7 ≡ record { output = codes "3"; end = More }
 unfolding zeros
-nested_after_seven = rw (list_of-row_of write_three) refl
+nested_after_seven = rw (listed write_three) refl
 
 -- Leaving the block is one.
 nested_after_eight : wasm php1 [] (with_main (in_block write_three)) 8 ≡ record { output = codes "3"; end = Done }
 unfolding zeros
-nested_after_eight = rw (list_of-row_of write_three) refl
+nested_after_eight = rw (listed write_three) refl
 
 -- A length of -1 is 2^32 - 1 bytes, more than the memory has.
 misuse : wasm php1 [] (with_main (I32Const (pos 0) ∷ I32Const (negsuc 0) ∷ Call 0 ∷ [])) 5 ≡ record { output = []; end = Stopped Misuse }
@@ -95,7 +104,7 @@ too_few_arguments = refl
 
 -- Inside a block the opcodes outside count too.
 too_few_in_block : wasm php1 [] (with_main (I32Const (pos 0) ∷ in_block (Call 0 ∷ []))) 9 ≡ record { output = []; end = Trap 1 2 }
-too_few_in_block = rw (list_of-row_of (Call 0 ∷ []), size-block no_result (Call 0 ∷ [])) refl
+too_few_in_block = rw (listed (Call 0 ∷ []), size-block no_result (Call 0 ∷ [])) refl
 
 -- The instructions take nothing and leave nothing, in each context.
 writes_from_nothing : (body : List Instr) (c : Context) → IsSequence (with_main body) c write_three [] []
@@ -112,14 +121,21 @@ writes_from_nothing body c = (
 -- The module is valid where main is.
 with_main_is_valid : (body : List Instr) → IsFunc (with_main body) (main body) → IsValid (with_main body)
 with_main_is_valid body valid = record {
-  types = (omega arith, (omega arith, tt));
-  imports = (omega arith, tt);
+  outside = record {
+    types = (omega arith, (omega arith, tt));
+    imports = (omega arith, tt);
+    func_types = (omega arith, tt);
+    tables = tt;
+    one_table = omega arith;
+    memories = ((omega arith, tt), tt);
+    one_memory = omega arith;
+    globals = tt;
+    exports = (omega arith, tt);
+    named_once = λ i j d less small same. omega arith;
+    elements = tt;
+    segments = ((omega arith, ((I32 ∷ [], ([], refl, refl), refl), (tt, tt))), tt);
+  };
   funcs = (valid, tt);
-  memories = ((omega arith, tt), tt);
-  one_memory = omega arith;
-  exports = (omega arith, tt);
-  named_once = λ i j d less small same. omega arith;
-  segments = ((omega arith, (I32 ∷ [], ([], refl, refl), refl), (tt, tt)), tt);
 }
 
 -- The module that prints 3 is valid.

@@ -1,15 +1,17 @@
 -- The bytes of a module that prints 3, made by hand from the Core Specification 1.0, 5; a block; and sections that are no module's.
-use Rattle.std.proofs.Common.{◌≡◌, ℕ, ◌<◌, ◌^◌, List, [], ◌∷◌, ◌++◌, length, map, flat_map, refl, sym, ap, arith, rules, inl, codes, None, Some}
+use Rattle.std.proofs.Common.{◌≡◌, ℕ, ◌<◌, ◌^◌, List, [], ◌∷◌, ◌++◌, length, map, flat_map, refl, sym, ap, arith, rules, inl, codes, None}
 use Rattle.std.specs.Prelude.{pos, All, drop}
 use Rattle.std.specs.List.{AllByRecursion}
 use Rattle.std.proofs.lemmas.List.{append-nil, length-map}
 use Rattle.std.proofs.lemmas.Str.{IsUtf8-from_ascii}
 use Rattle.std.proofs.lemmas.Str.Ascii.{IsAscii-from_all}
 use Rattle.hph_wasm.specs.Leb128.{Unsigned, shortest_unsigned, shortest_signed}
-use Rattle.hph_wasm.specs.Grammar.{Grammar, ◌⊳◌, Each, Vector, Bytes, Named, ValueType, FunctionType, MemoryType, Instruction, Expression, Imported, Exported, Locals, Code, Data, RawSection, BeginsWithName, type_of_func, code_of_func, FromTypes, SpellsModule, header}
-use Rattle.hph_wasm.specs.Spelling.{instr_bytes, spelling}
+use Rattle.hph_wasm.specs.Grammar.{Grammar, ◌⊳◌, Each, Vector, Bytes, Named, ValueType, FunctionType, MemoryType}
+use Rattle.hph_wasm.specs.InstructionGrammar.{Instruction, Expression}
+use Rattle.hph_wasm.specs.ModuleGrammar.{Imported, Exported, Locals, Code, Data, RawSection, BeginsWithName, parts_of, type_of_func, code_of_func, FromTypes, SpellsModule, header}
+use Rattle.hph_wasm.specs.Spelling.{spelling}
 use Rattle.hph_wasm.specs.declared.types.ValType.TheVariants.{I32}
-use Rattle.hph_wasm.specs.declared.instr.Instr.{Block, Call, I32Const}
+use Rattle.hph_wasm.specs.declared.instr.Instr.{Call, I32Const}
 use Rattle.hph_wasm.specs.declared.types.Limits.{Limits}
 use Rattle.hph_wasm.specs.declared.module.Import.{Import}
 use Rattle.hph_wasm.specs.declared.module.ImportDesc.TheVariants as import_desc
@@ -18,7 +20,6 @@ use Rattle.hph_wasm.specs.declared.module.Export.{Export}
 use Rattle.hph_wasm.specs.declared.module.ExportDesc.TheVariants as export_desc
 use Rattle.hph_wasm.specs.declared.module.Segment.{Segment}
 use Rattle.hph_wasm.specs.declared.module.Module.{Module}
-use Rattle.hph_wasm.proofs.InstructionRows.{Instructions-row_of, instr_bytes-Block}
 use Rattle.hph_wasm.proofs.Leb128Laws.{unsigned_form}
 
 -- what is printed is given by its address and its length
@@ -43,8 +44,11 @@ prints_3 = record {
   types = record { params = I32 ∷ I32 ∷ []; results = [] } ∷ record { params = []; results = [] } ∷ [];
   imports = write ∷ [];
   funcs = main ∷ [];
+  tables = [];
   memories = one_page ∷ [];
+  globals = [];
   exports = main_export ∷ [];
+  elements = [];
   segments = three ∷ [];
 }
 
@@ -97,14 +101,15 @@ segments_bytes = 0x01 ∷ 0x00 ∷ 0x41 ∷ 0x00 ∷ 0x0B ∷ 0x01 ∷ 0x33 ∷ 
 
 -- the sections, each by its number
 abbrev sections : List (ℕ × List ℕ)
-sections = (1, types_bytes) ∷ (2, imports_bytes) ∷ (3, functions_bytes) ∷ (5, memories_bytes) ∷ (7, exports_bytes) ∷ (10, code_bytes) ∷ (11, segments_bytes) ∷ []
+sections = (1, types_bytes) ∷ (2, imports_bytes) ∷ (3, functions_bytes) ∷ (5, memories_bytes) ∷ (7, exports_bytes) ∷ (10, code_bytes) ∷
+    (11, segments_bytes) ∷ []
 
 -- a thing of these bytes, and another behind it
-abbrev then : {P Q : Grammar} (f g : List ℕ) → P f → Q g → (P ⊳ Q) (f ++ g)
+abbrev pub then : {P Q : Grammar} (f g : List ℕ) → P f → Q g → (P ⊳ Q) (f ++ g)
 then f g p q = record { front = f; rest = g; split = refl; first = p; second = q }
 
 -- a number below 2^7 is spelled by one byte
-one_byte : (n : ℕ) → n < 2 ^ 7 → Unsigned 32 n (n ∷ [])
+pub one_byte : (n : ℕ) → n < 2 ^ 7 → Unsigned 32 n (n ∷ [])
 one_byte n low = (low, omega arith, refl)
 
 -- few bytes behind their count
@@ -116,8 +121,9 @@ name : (text : List ℕ) → All (λ b. b < 2 ^ 7) text → length text < 2 ^ 7 
 name text ascii few = (IsUtf8-from_ascii text (IsAscii-from_all text ascii), few_bytes text few)
 
 -- a vector of one thing
-single : {X : Type 0} (P : X → Grammar) (x : X) (f : List ℕ) → P x f → Vector P (x ∷ []) (0x01 ∷ f)
-single P x f p = then (0x01 ∷ []) f (one_byte 1 (omega arith)) (record { front = f; rest = []; split = sym (append-nil f); first = p; second = refl })
+pub single : {X : Type 0} (P : X → Grammar) (x : X) (f : List ℕ) → P x f → Vector P (x ∷ []) (0x01 ∷ f)
+single P x f p = then (0x01 ∷ []) f (one_byte 1 (omega arith))
+    (record { front = f; rest = []; split = sym (append-nil f); first = p; second = refl })
 
 -- the vectors of types in the two function types
 no_values : Vector ValueType [] (0x00 ∷ [])
@@ -150,7 +156,7 @@ exports = single Exported main_export _
     (then (0x00 ∷ []) _ refl (one_byte 1 (omega arith))))
 
 -- a constant from 0 to 63 is spelled by one byte
-constant : (n : ℕ) → n < 2 ^ 6 → Instruction (I32Const (pos n)) (0x41 ∷ n ∷ [])
+pub constant : (n : ℕ) → n < 2 ^ 6 → Instruction (I32Const (pos n)) (0x41 ∷ n ∷ [])
 constant n low = then (0x41 ∷ []) _ refl (inl (low, omega arith, refl))
 
 -- the body of `main`
@@ -165,7 +171,8 @@ no_locals : Locals [] (0x00 ∷ [])
 no_locals = record { runs = []; made = refl; few = omega arith; spelled = then (0x00 ∷ []) _ (one_byte 0 (omega arith)) refl }
 
 code : Vector Code (map code_of_func prints_3.funcs) code_bytes
-code = single Code (code_of_func main) _ (record { size = 0x08 ∷ []; body = _; split = refl; counted = one_byte 8 (omega arith); inside = then (0x00 ∷ []) _ no_locals body })
+code = single Code (code_of_func main) _ (record
+    { size = 0x08 ∷ []; body = _; split = refl; counted = one_byte 8 (omega arith); inside = then (0x00 ∷ []) _ no_locals body })
 
 segments : Vector Data prints_3.segments segments_bytes
 segments = single Data three _
@@ -174,8 +181,8 @@ segments = single Data three _
     (few_bytes (codes "3") (omega arith))))
 
 -- the sections, from the types on, spell the module
-inside : FromTypes prints_3 sections
-inside = (types, (imports, (functions, (memories, (exports, (code, (segments, refl)))))))
+inside : FromTypes (parts_of prints_3) sections
+inside = (types, (imports, (functions, (refl, (memories, (refl, (exports, (refl, (code, (segments, refl))))))))))
 
 -- a section with its number and its size
 abbrev section_bytes : ℕ × List ℕ → List ℕ
@@ -185,7 +192,8 @@ section_bytes section = section.0 ∷ length section.1 ∷ section.1
 sections_stand : (sections : List (ℕ × List ℕ)) → AllByRecursion (λ section. length section.1 < 2 ^ 7) sections →
     Each RawSection sections (flat_map section_bytes sections)
 sections_stand [] few = refl
-sections_stand (section ∷ sections) few = then (section_bytes section) _ (then (section.0 ∷ []) _ refl (few_bytes section.1 few.0)) (sections_stand sections few.1)
+sections_stand (section ∷ sections) few =
+    then (section_bytes section) _ (then (section.0 ∷ []) _ refl (few_bytes section.1 few.0)) (sections_stand sections few.1)
 
 -- each of the module's sections has a number above 0
 none_is_custom : AllByRecursion (λ section. section.0 ≡ 0 → BeginsWithName section.1) sections
@@ -193,7 +201,13 @@ none_is_custom = search rules
 
 -- the bytes spell the module
 spelled : SpellsModule module_bytes prints_3
-spelled = then header _ refl (record { sections = sections; stand = sections_stand sections (search rules); named = none_is_custom; inside = inside })
+spelled = then header _ refl (record {
+  sections = sections;
+  stand = sections_stand sections (search rules);
+  named =
+      none_is_custom;
+  inside = inside;
+})
 
 -- and so they do with a custom section among them
 spelled_with_custom : SpellsModule with_custom prints_3
@@ -205,24 +219,14 @@ spelled_with_custom = then header _ refl (record {
 })
 
 -- sections in another order spell no module
-imports_before_types : (m : Module) (imports types : List ℕ) → FromTypes m ((2, imports) ∷ (1, types) ∷ []) → ⊥
-imports_before_types m imports types p = let more : ◌≡◌ {A = List (ℕ × List ℕ)} ((1, types) ∷ []) [] = p.1.1.1.1.1.1.1 in cc
+imports_before_types : (m : Module) (first second : List ℕ) → FromTypes (parts_of m) ((2, first) ∷ (1, second) ∷ []) → ⊥
+imports_before_types m first second p = let more : ◌≡◌ {A = List (ℕ × List ℕ)} ((1, second) ∷ []) [] = p.1.1.1.1.1.1.1.1.1.1 in cc
 
 -- nor does code with no function (5.5.15: as many of the one as of the other)
-code_with_no_function : (m : Module) → FromTypes m ((10, code_bytes) ∷ []) → ⊥
+code_with_no_function : (m : Module) → FromTypes (parts_of m) ((10, code_bytes) ∷ []) → ⊥
 code_with_no_function m p =
     let functions : map type_of_func m.funcs ≡ [] = p.1.1.0 in
-    let code = p.1.1.1.1.1.0 in
+    let code = p.1.1.1.1.1.1.1.1.0 in
     let count = length (map code_of_func m.funcs) in
     let a = (unsigned_form 32).alike count 1 code.front (0x01 ∷ []) code.rest _ code.first (one_byte 1 (omega arith)) (sym code.split) in
     omega (arith, a.thing, ap length functions, length-map m.funcs type_of_func, length-map m.funcs code_of_func)
-
--- a block that gives a constant
-block : Instruction (Block (record { result = Some I32 }) (I32Const (pos 5) ∷ [])) (0x02 ∷ 0x7F ∷ 0x41 ∷ 0x05 ∷ 0x0B ∷ [])
-block = then (0x02 ∷ []) _ refl (then (0x7F ∷ []) _ refl (then (0x41 ∷ 0x05 ∷ []) _
-    (Instructions-row_of (I32Const (pos 5) ∷ []) (0x41 ∷ 0x05 ∷ []) (then (0x41 ∷ 0x05 ∷ []) _ (constant 5 (omega arith)) refl)) refl))
-
--- and its bytes are written so
-written_block : instr_bytes (Block (record { result = Some I32 }) (I32Const (pos 5) ∷ [])) ≡ 0x02 ∷ 0x7F ∷ 0x41 ∷ 0x05 ∷ 0x0B ∷ []
-unfolding shortest_signed
-written_block = instr_bytes-Block (record { result = Some I32 }) (I32Const (pos 5) ∷ [])

@@ -1,8 +1,8 @@
--- What holds of every run of a module: one that has ended stays so, and no output is taken back.
-use Rattle.std.proofs.Common.{◌≡◌, ◌≤◌, ℕ, zero, suc, zero-add, ◌+◌, ◌-◌, List, [], ◌∷◌, ◌++◌, map, length, refl, sym, ap, subst, ◌∙◌, arith, append_assoc, Option, Some, None}
+-- What holds of every run of a module: one that has ended stays so, no output is taken back, and no function that was entered.
+use Rattle.std.proofs.Common.{◌≡◌, ◌≤◌, ℕ, zero, suc, zero-add, ◌+◌, ◌-◌, List, [], ◌∷◌, ◌++◌, map, length, take, refl, sym, ap, subst, ◌∙◌, arith, append_assoc, Option, Some, None}
 use Rattle.std.proofs.lemmas.List.{append-nil}
-use Rattle.std.specs.Prelude.{nat_eq, slice_get, codes}
-use Rattle.hph_wasm.specs.declared.instr.Instr.{Instr, Block', Call, I32Const}
+use Rattle.std.specs.Prelude.{nat_eq, nat_le, slice_get, codes}
+use Rattle.hph_wasm.specs.declared.instr.Instr.{Instr, Call}
 use Rattle.hph_wasm.specs.declared.value.Value.{Value}
 use Rattle.hph_wasm.specs.declared.types.FuncType.{FuncType}
 use Rattle.hph_wasm.specs.declared.module.Module.{Module}
@@ -10,10 +10,11 @@ use Rattle.hph_wasm.specs.Values.{number_of}
 use Rattle.hph_wasm.specs.Functions.{Function, Imported, Defined, functions, type_number}
 use Rattle.hph_wasm.specs.Outcome.{IsOver, IsPrefix}
 use Rattle.hph_wasm.specs.Configuration.{Reply, Goes, Stops, Host, Label, Frame, Store, Setting, Configuration, Running, Calling, Trapped, Stuck, Ended}
-use Rattle.hph_wasm.specs.Reduction.{Arguments, arguments, results, reply_of, with_host, after_call, after_return, end_of_function, end_of_code, instr_step, after_reply, invocation_of, invocation, step, reduce}
-use Rattle.hph_wasm.specs.Run.{start, outcome_of, run_from, wasm, exported_function, KeepsOutput, NeverTakesBack}
+use Rattle.hph_wasm.specs.Reduction.{Arguments, arguments, results, reply_of, with_host, after_call, after_return, end_of_function, end_of_code, return_step, branch_step, after_reply, invocation_of, invocation, step, reduce}
+use Rattle.hph_wasm.specs.Run.{start, outcome_of, run_from, wasm, entered, entered_in, invoked_from, invoked, exported_function, KeepsOutput, NeverTakesBack, IsEntering}
 use Rattle.hph_wasm.specs.Agrees.{IsRun}
 use Rattle.hph_wasm.proofs.Choices.{if_some-cases, cond-cases}
+use Rattle.hph_wasm.proofs.Steps.{instr_step-kept}
 
 -- A list begins with itself.
 pub prefix_refl : (output : List ℕ) → IsPrefix output output
@@ -61,14 +62,19 @@ module _ {H E : Type 0} (host : Host H E) (m : Module) where
     after_call_shows [] rest values at = prefix_refl (host.output at.store.host)
     after_call_shows (frame ∷ frames) rest values at = prefix_refl (host.output at.store.host)
 
-    -- A return prints nothing.
+    -- The caller has the output that is there.
+    after_return_shows : (values : List Value) (frame : Frame) (frames : List Frame) (store : Store H) →
+        Shows (host.output store.host) (after_return host m frame frames values store)
+    after_return_shows values frame frames store = after_call_shows frames frame.rest (values ++ frame.values)
+        (record { locals = frame.locals; labels = frame.labels; frames = frames; store = store })
+
+    -- The end of a function prints nothing.
     end_of_function_shows : (values : List Value) (frames : List Frame) (store : Store H) (stuck : Configuration H E) →
         Shows (host.output store.host) stuck → Shows (host.output store.host) (end_of_function host m values frames store stuck)
     end_of_function_shows values [] store stuck shown = shown
     end_of_function_shows values (frame ∷ frames) store stuck shown =
         cond-cases (Shows (host.output store.host)) (nat_eq frame.arity (length values)) (after_return host m frame frames values store) stuck
-        (λ _. after_call_shows frames frame.rest (values ++ frame.values)
-        (record { locals = frame.locals; labels = frame.labels; frames = frames; store = store }))
+        (λ _. after_return_shows values frame frames store)
         shown
 
     -- The end of a block prints nothing.
@@ -77,12 +83,38 @@ module _ {H E : Type 0} (host : Host H E) (m : Module) where
     end_of_code_shows values [] at = end_of_function_shows values at.frames at.store (Stuck [] at) (prefix_refl (host.output at.store.host))
     end_of_code_shows values (label ∷ labels) at = prefix_refl (host.output at.store.host)
 
-    -- An instruction prints nothing.
-    instr_step_shows : (i : Instr) (rest : List Instr) (values : List Value) (at : Setting H) →
-        Shows (host.output at.store.host) (instr_step host m i rest values at (Trapped (i ∷ rest) at) (Stuck (i ∷ rest) at))
-    instr_step_shows (Block' ty shape body) rest values at = prefix_refl (host.output at.store.host)
-    instr_step_shows (Call f) rest values at = prefix_refl (host.output at.store.host)
-    instr_step_shows (I32Const z) rest values at = prefix_refl (host.output at.store.host)
+    -- A return prints nothing.
+    return_step_shows : (values : List Value) (frames : List Frame) (store : Store H) (stuck : Configuration H E) →
+        Shows (host.output store.host) stuck → Shows (host.output store.host) (return_step host m values frames store stuck)
+    return_step_shows values [] store stuck shown = shown
+    return_step_shows values (frame ∷ frames) store stuck shown =
+        cond-cases (Shows (host.output store.host)) (nat_le frame.arity (length values)) _ stuck
+        (λ _. after_return_shows (take frame.arity values) frame frames store) shown
+
+    -- Nor does a branch.
+    branch_step_shows : (k : ℕ) (values : List Value) (labels : List Label) (at : Setting H) (stuck : Configuration H E) →
+        Shows (host.output at.store.host) stuck → Shows (host.output at.store.host) (branch_step host m k values labels at stuck)
+    branch_step_shows zero values [] at stuck shown = return_step_shows values at.frames at.store stuck shown
+    branch_step_shows (suc k) values [] at stuck shown = shown
+    branch_step_shows zero values (label ∷ labels) at stuck shown =
+        cond-cases (Shows (host.output at.store.host)) (nat_le label.arity (length values)) _ stuck
+        (λ _. prefix_refl (host.output at.store.host)) shown
+    branch_step_shows (suc k) values (label ∷ labels) at stuck shown = branch_step_shows k values labels at stuck shown
+
+    -- No instruction prints.
+    running_shows : (i : Instr) (rest : List Instr) (values : List Value) (at : Setting H) →
+        Shows (host.output at.store.host) (step host m (Running (i ∷ rest) values at))
+    running_shows i rest values at =
+        let same = prefix_refl (host.output at.store.host) in
+        instr_step-kept host m (Shows (host.output at.store.host)) rest at (Trapped (i ∷ rest) at) (Stuck (i ∷ rest) at) same i values (record {
+          traps = λ can. same;
+          goes = λ values locals memory globals. same;
+          jumps = λ k values one. same;
+          calls = λ f values. same;
+          enters = λ label inside entry. same;
+          branches = λ k values. branch_step_shows k values at.labels at (Stuck (i ∷ rest) at) same;
+          returns = λ values. return_step_shows values at.frames at.store (Stuck (i ∷ rest) at) same;
+        })
 
     -- The call of an import shows the host's output.
     after_reply_shows : (reply : Reply H E) (ty : FuncType) (below : List Value) (rest : List Instr) (at : Setting H)
@@ -115,7 +147,7 @@ module _ {H E : Type 0} (host : Host H E) (m : Module) where
     -- A step only adds output.
     step_shows : (c : Configuration H E) → Shows (outcome_of host m c).output (step host m c)
     step_shows (Running [] values at) = end_of_code_shows values at.labels at
-    step_shows (Running (i ∷ rest) values at) = instr_step_shows i rest values at
+    step_shows (Running (i ∷ rest) values at) = running_shows i rest values at
     step_shows (Calling f rest values at) =
         invocation_shows f rest values at (Stuck (Call f ∷ rest) at) (prefix_refl (host.output at.store.host))
     step_shows (Trapped code at) = prefix_refl (host.output at.store.host)
@@ -143,3 +175,50 @@ module _ {H E : Type 0} (host : Host H E) (m : Module) where
     -- A module's runs.
     pub wasm_is_run : (state : H) → IsRun (wasm host state m)
     wasm_is_run state = from_is_run state (exported_function (codes "main") m.exports)
+
+module _ {H E : Type 0} (host : Host H E) (m : Module) where
+  -- What many reductions enter is what the first ones enter, and the ones behind them.
+  entered_in-add : (i j : ℕ) (c : Configuration H E) →
+      entered_in host m (i + j) c ≡ entered_in host m i c ++ entered_in host m j (reduce host m i c)
+  entered_in-add zero j c = ap (λ n. entered_in host m n c) (zero-add j)
+  entered_in-add (suc i) j c =
+      let next : suc i + j ≡ suc (i + j) = omega arith in
+      ap (λ n. entered_in host m n c) next ∙ ap (λ l. entered m c (step host m c) ++ l) (entered_in-add i j (step host m c)) ∙
+      sym (append_assoc (entered m c (step host m c)) (entered_in host m i (step host m c)) (entered_in host m j (reduce host m i (step host m c))))
+
+  -- Where a run is over a step enters nothing.
+  entered-over : (c after : Configuration H E) → IsOver (outcome_of host m c) → entered m c after ≡ []
+  entered-over (Running code values at) after over = absurd (over refl)
+  entered-over (Calling f rest values at) after over = absurd (over refl)
+  entered-over (Trapped code at) after over = refl
+  entered-over (Stuck code at) after over = refl
+  entered-over (Ended end h) after over = refl
+
+  -- So do many.
+  entered_in-over : (n : ℕ) (c : Configuration H E) → IsOver (outcome_of host m c) → entered_in host m n c ≡ []
+  entered_in-over zero c over = refl
+  entered_in-over (suc n) c over =
+      let same = step_over host m c over in
+      ap (λ l. l ++ entered_in host m n (step host m c)) (entered-over c (step host m c) over) ∙
+      ap (entered_in host m n) same ∙ entered_in-over n c over
+
+  -- What is entered from a configuration on.
+  entering_from : (c : Configuration H E) → IsEntering (λ n. outcome_of host m (reduce host m n c)) (λ n. entered_in host m n c)
+  entering_from c = record {
+    grows = λ n k within.
+        let later : k ≡ n + (k - n) = omega arith in
+        (entered_in host m (k - n) (reduce host m n c), ap (λ k. entered_in host m k c) later ∙ entered_in-add n (k - n) c);
+    stays = λ n k over within.
+        let later : k ≡ n + (k - n) = omega arith in
+        ap (λ k. entered_in host m k c) later ∙ entered_in-add n (k - n) c ∙
+        ap (λ l. entered_in host m n c ++ l) (entered_in-over (k - n) (reduce host m n c) over) ∙ append-nil (entered_in host m n c);
+  }
+
+  -- The same where there may be no main.
+  from_is_entering : (state : H) (main : Option ℕ) → IsEntering (λ n. run_from host state m main n) (λ n. invoked_from host state m main n)
+  from_is_entering state None = record { grows = λ n k within. prefix_refl []; stays = λ n k over within. refl }
+  from_is_entering state (Some f) = entering_from (start state m f)
+
+  -- What a module's run enters.
+  pub invoked_is_entering : (state : H) → IsEntering (wasm host state m) (invoked host state m)
+  invoked_is_entering state = from_is_entering state (exported_function (codes "main") m.exports)

@@ -1,27 +1,77 @@
--- What the rules say of a block by the list of its instructions, for those who build blocks from lists.
-use Rattle.std.specs.Prelude.{◌≡◌, ◌↔◌, ◌+◌, List, [], ◌∷◌}
+-- What the rules say of a block, a loop or an `if` by the lists of their instructions, for those who build them from lists.
+use Rattle.std.specs.Prelude.{◌≡◌, ◌↔◌, ℕ, ◌+◌, List, [], ◌∷◌, Option}
 use Rattle.hph_wasm.specs.declared.instr.Instr.{Instr}
 use Rattle.hph_wasm.specs.declared.instr.Instr.TheViews as view
 use Rattle.hph_wasm.specs.declared.types.ValType.{ValType}
+use Rattle.hph_wasm.specs.declared.types.ValType.TheVariants.{I32}
 use Rattle.hph_wasm.specs.declared.types.BlockType.{BlockType}
 use Rattle.hph_wasm.specs.declared.value.Value.{Value}
+use Rattle.hph_wasm.specs.declared.value.Value.TheVariants as value
 use Rattle.hph_wasm.specs.declared.module.Module.{Module}
+use Rattle.hph_wasm.specs.Choice.{if_some, if_zero}
 use Rattle.hph_wasm.specs.Rows.{size, list_size}
 use Rattle.hph_wasm.specs.Validity.{Context, under_label, results_of, Takes, IsInstr, IsSequence}
-use Rattle.hph_wasm.specs.Configuration.{Host, Setting, Running}
-use Rattle.hph_wasm.specs.Reduction.{block_label, block_entry, step}
+use Rattle.hph_wasm.specs.Configuration.{Host, Label, Setting, Running}
+use Rattle.hph_wasm.specs.Reduction.{block_label, loop_label, block_entry, step}
 
--- Its own opcode and its `end` are two more than what is inside.
+-- A block's own opcode and its `end` are two more than what is inside.
 abbrev pub BlocksAddTwo : Type 0
 BlocksAddTwo = (ty : BlockType) (body : List Instr) → size (view.Block ty body) ≡ 2 + list_size body
 
--- It is valid where what is inside is.
+-- The same of a loop.
+abbrev pub LoopsAddTwo : Type 0
+LoopsAddTwo = (ty : BlockType) (body : List Instr) → size (view.Loop ty body) ≡ 2 + list_size body
+
+-- A block is valid where what is inside is.
 abbrev pub BlocksAreSequences : Type 0
 BlocksAreSequences = (m : Module) (c : Context) (ty : BlockType) (body : List Instr) (from to : List ValType) →
     IsInstr m c (view.Block ty body) from to ↔
     (IsSequence m (under_label (results_of ty) c) body [] (results_of ty) × Takes [] (results_of ty) from to)
 
--- It is entered at the first instruction inside.
+-- The same of a loop.
+abbrev pub LoopsAreSequences : Type 0
+LoopsAreSequences = (m : Module) (c : Context) (ty : BlockType) (body : List Instr) (from to : List ValType) →
+    IsInstr m c (view.Loop ty body) from to ↔
+    (IsSequence m (under_label [] c) body [] (results_of ty) × Takes [] (results_of ty) from to)
+
+-- A block is entered at the first instruction inside.
 abbrev pub BlocksAreEntered : {H E : Type 0} → Host H E → Module → Type 0
 BlocksAreEntered {H} host m = (ty : BlockType) (body rest : List Instr) (values : List Value) (at : Setting H) →
     step host m (Running (view.Block ty body ∷ rest) values at) ≡ block_entry host m (block_label ty values rest) body at
+
+-- The same of a loop.
+abbrev pub LoopsAreEntered : {H E : Type 0} → Host H E → Module → Type 0
+LoopsAreEntered {H} host m = (ty : BlockType) (body rest : List Instr) (values : List Value) (at : Setting H) →
+    step host m (Running (view.Loop ty body ∷ rest) values at) ≡ block_entry host m (loop_label (view.Loop ty body) values rest) body at
+
+-- What stands behind an `else`; nothing where there is none.
+abbrev pub else_list : Option (List Instr) → List Instr
+else_list other = if_some other [] (λ code. code)
+
+-- The opcodes of an `else` and what is behind it.
+abbrev pub else_list_size : Option (List Instr) → ℕ
+else_list_size other = if_some other 0 (λ code. 1 + list_size code)
+
+-- An `if` has its own opcode, its `end`, what is inside, and its `else`.
+abbrev pub IfsAddTwo : Type 0
+IfsAddTwo = (ty : BlockType) (body : List Instr) (other : Option (List Instr)) →
+    size (view.If ty body other) ≡ 2 + (list_size body + else_list_size other)
+
+-- An `if` is valid where both branches are.
+abbrev pub IfsAreSequences : Type 0
+IfsAreSequences = (m : Module) (c : Context) (ty : BlockType) (body : List Instr) (other : Option (List Instr)) (from to : List ValType) →
+    IsInstr m c (view.If ty body other) from to ↔
+    (IsSequence m (under_label (results_of ty) c) body [] (results_of ty) ×
+    IsSequence m (under_label (results_of ty) c) (else_list other) [] (results_of ty) × Takes (I32 ∷ []) (results_of ty) from to)
+
+-- The label of a branch: so many opcodes stand between the instructions inside and those outside.
+abbrev pub branch_label : BlockType → ℕ → List Value → List Instr → Label
+branch_label ty after values rest = record (block_label ty values rest) { after = after }
+
+-- An `if` is entered at the first instruction of a branch.
+abbrev pub IfsAreEntered : {H E : Type 0} → Host H E → Module → Type 0
+IfsAreEntered {H} host m = (ty : BlockType) (body : List Instr) (other : Option (List Instr)) (n : ℕ) (rest : List Instr)
+    (values : List Value) (at : Setting H) →
+    step host m (Running (view.If ty body other ∷ rest) (value.I32 n ∷ values) at) ≡ if_zero n
+    (block_entry host m (block_label ty values rest) (else_list other) at)
+    (block_entry host m (branch_label ty (1 + else_list_size other) values rest) body at)

@@ -37,10 +37,11 @@ pub record Frame : Type 0 where
   pub locals : List Value
   pub labels : List Label
 
--- What outlives all calls (4.2.3).
+-- What outlives all calls (4.2.3). Tables never change, so a module's is known without it.
 pub record Store (H : Type 0) : Type 0 where
   pub host : H
   pub memory : List ℕ
+  pub globals : List Value
 
 -- What stands around the instructions that run: the locals and labels of their function, and the frames from theirs outwards.
 pub record Setting (H : Type 0) : Type 0 where

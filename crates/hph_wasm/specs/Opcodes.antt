@@ -1,32 +1,39 @@
 -- A body as its opcodes, in the order of the binary format (Core Specification 1.0, 5.4), which the place of a trap counts.
 use Rattle.std.specs.Prelude.{◌≡◌, ℕ, List, [], ◌∷◌, ◌++◌, Some, slice_get}
-use Rattle.hph_wasm.specs.declared.instr.Instr.{Instr, Block', Call, I32Const, Row_of-Instr, end_of-Instr, more_of-Instr}
-use Rattle.hph_wasm.specs.declared.value.Value.{Value}
+use Rattle.hph_wasm.specs.declared.instr.Instr.{Instr, Block', Loop', If', Row_of-Instr, end_of-Instr, more_of-Instr, Held-Instr-If-2, None', Some'}
 use Rattle.hph_wasm.specs.declared.module.Func.{Func}
 use Rattle.hph_wasm.specs.declared.module.Module.{Module}
 use Rattle.hph_wasm.specs.Functions.{Defined, functions}
 use Rattle.hph_wasm.specs.Outcome.{End, Trap}
-use Rattle.hph_wasm.specs.Configuration.{Host, Setting, Running}
+use Rattle.hph_wasm.specs.Configuration.{Host, Setting, Trapped}
 use Rattle.hph_wasm.specs.Reduction.{reduce}
 use Rattle.hph_wasm.specs.Run.{start}
 use Rattle.hph_wasm.specs.Place.{trap_at}
 
--- The opcode of an instruction, or an `end`.
+-- The opcode of an instruction, an `else`, or an `end`.
 pub data Opcode : Type 0 where
   Of : (i : Instr) → Opcode
+  ElseOfCode : Opcode
   EndOfCode : Opcode
 
 abbrev mutual
   -- An instruction's own opcode, and for a block those inside and its `end`.
   pub instr_opcodes : Instr → List Opcode
   instr_opcodes (Block' ty shape body) = Of (Block' ty shape body) ∷ (row_opcodes body ++ EndOfCode ∷ [])
-  instr_opcodes (Call f) = Of (Call f) ∷ []
-  instr_opcodes (I32Const z) = Of (I32Const z) ∷ []
+  instr_opcodes (Loop' ty shape body) = Of (Loop' ty shape body) ∷ (row_opcodes body ++ EndOfCode ∷ [])
+  instr_opcodes (If' ty shape body other) =
+      Of (If' ty shape body other) ∷ (row_opcodes body ++ (else_opcodes other ++ EndOfCode ∷ []))
+  instr_opcodes i = Of i ∷ []
 
   -- The same of the instructions inside a block.
   pub row_opcodes : {n : _} → Row_of-Instr n → List Opcode
   row_opcodes end_of-Instr = []
   row_opcodes (more_of-Instr i rest) = instr_opcodes i ++ row_opcodes rest
+
+  -- An `else`, if there is one, and what is behind it.
+  pub else_opcodes : Held-Instr-If-2 → List Opcode
+  else_opcodes None' = []
+  else_opcodes (Some' shape body) = ElseOfCode ∷ row_opcodes body
 
 -- The same of a list of instructions.
 abbrev pub opcodes : List Instr → List Opcode
@@ -35,10 +42,12 @@ opcodes (i ∷ rest) = instr_opcodes i ++ opcodes rest
 
 -- A trap at the opcode of this instruction in the body of a function.
 abbrev pub IsTrapOf : {E : Type 0} → Module → Instr → End E → Type 0
-IsTrapOf m i (Trap f k) = (func : Func) × (slice_get (functions m) f ≡ Some (Defined func)) × (slice_get (opcodes func.body) k ≡ Some (Of i))
+IsTrapOf m i (Trap f k) = (func : Func) × (slice_get (functions m) f ≡ Some (Defined func)) ×
+    (slice_get (opcodes func.body) k ≡ Some (Of i))
 IsTrapOf m i _ = ⊥
 
--- Wherever a run is, a trap of the next instruction is at that instruction's opcode.
+-- Wherever a run traps, it is at the opcode of the instruction that is next.
 abbrev pub TrapsAreAtOpcodes : {H E : Type 0} → Host H E → Module → Type 0
-TrapsAreAtOpcodes {H} {E} host m = (state : H) (main n : ℕ) (i : Instr) (rest : List Instr) (values : List Value) (at : Setting H) →
-    reduce host m n (start state m main) ≡ Running (i ∷ rest) values at → IsTrapOf {E = E} m i (trap_at m (i ∷ rest) at)
+TrapsAreAtOpcodes {H} {E} host m = (state : H) (main n : ℕ) (code : List Instr) (at : Setting H) →
+    reduce host m n (start state m main) ≡ Trapped code at →
+    (i : Instr) × (rest : List Instr) × (code ≡ i ∷ rest) × IsTrapOf {E = E} m i (trap_at m code at)

@@ -1,8 +1,9 @@
--- Reduction as the Core Specification 1.0 writes it (4.2.13, 4.4): rules that rewrite one sequence of instructions, in which
--- values, labels, frames and invocations stand too, under contexts. What one rule covers is this project's count: a frame
--- has its function's outermost label with it, and a constant becomes a value by a rule.
-use Rattle.std.specs.Prelude.{◌≡◌, ℕ, ℤ, List, [], ◌∷◌, ◌++◌, length, Option, Some, None, IfSome, slice_get}
-use Rattle.hph_wasm.specs.declared.instr.Instr.{Instr, Block', Call, I32Const, items-the_row-Instr}
+-- Reduction as the Core Specification 1.0 writes it (4.2.13, 4.4): rules that rewrite one sequence of instructions under contexts.
+-- What one rule covers is this project's count: a frame has its function's outermost label with it, a constant becomes a value by a
+-- rule, `local.tee` is one rule, and an `if` leads to the label of its branch, where the standard has a block between the two.
+-- A branch that is decided, and a call, are two rules here as there.
+use Rattle.std.specs.Prelude.{◌≡◌, ℕ, suc, List, [], ◌∷◌, ◌++◌, length, Option, Some, None, IfSome, slice_get, slice_index_or}
+use Rattle.hph_wasm.specs.declared.instr.Instr.{Instr, Br, BrIf, BrTable, Return, Call, CallIndirect}
 use Rattle.hph_wasm.specs.declared.value.Value.{Value}
 use Rattle.hph_wasm.specs.declared.value.Value.TheVariants as value
 use Rattle.hph_wasm.specs.declared.types.BlockType.{BlockType}
@@ -10,68 +11,59 @@ use Rattle.hph_wasm.specs.declared.types.FuncType.{FuncType}
 use Rattle.hph_wasm.specs.declared.module.Import.{Import}
 use Rattle.hph_wasm.specs.declared.module.Func.{Func}
 use Rattle.hph_wasm.specs.declared.module.Module.{Module}
-use Rattle.hph_wasm.specs.Values.{i32_bits, zero_values}
-use Rattle.hph_wasm.specs.Functions.{Imported, Defined, functions}
+use Rattle.hph_wasm.specs.Values.{zero_values}
+use Rattle.hph_wasm.specs.Functions.{Imported, Defined, functions, func_type}
+use Rattle.hph_wasm.specs.Instantiation.{table_of}
 use Rattle.hph_wasm.specs.Configuration.{Goes, Host, Label, Frame, Store, Setting, Configuration, Running, Calling, Trapped, Stuck, Ended}
 use Rattle.hph_wasm.specs.Reduction.{results, reply_of, arity_of, with_host, step}
-
-mutual
-  -- Instructions, those that a program can't have among them (4.2.13).
-  pub data Administrative : Type 0 where
-    Plain : (i : Instr) → Administrative
-    Constant : (v : Value) → Administrative
-    Invoke : (function : ℕ) → Administrative
-    Labelled : (arity : ℕ) → (continuation : List Instr) → (body : Sequence) → Administrative
-    Framed : (arity : ℕ) → (locals : List Value) → (body : Sequence) → Administrative
-
-  pub data Sequence : Type 0 where
-    Empty : Sequence
-    Then : (first : Administrative) → (rest : Sequence) → Sequence
-
--- One sequence behind another.
-abbrev pub join : Sequence → Sequence → Sequence
-join Empty b = b
-join (Then first a) b = Then first (join a b)
-
--- One instruction.
-abbrev pub single : Administrative → Sequence
-single i = Then i Empty
-
--- A program's instructions.
-abbrev pub plain : List Instr → Sequence
-plain [] = Empty
-plain (i ∷ code) = Then (Plain i) (plain code)
-
--- Values, of which the list has the first one first, as the arguments of a call.
-abbrev pub constants : List Value → Sequence
-constants [] = Empty
-constants (v ∷ values) = Then (Constant v) (constants values)
-
--- Values, of which the list has the last one first, as a stack.
-abbrev pub stack : List Value → Sequence
-stack [] = Empty
-stack (v ∷ values) = join (stack values) (single (Constant v))
-
--- An instruction is the block of a type with these instructions inside.
-abbrev pub IsBlock : Instr → BlockType → List Instr → Type 0
-IsBlock (Block' ty shape body) block_type code = (ty ≡ block_type) × (items-the_row-Instr _ body ≡ code)
-IsBlock _ block_type code = ⊥
+use Rattle.hph_wasm.specs.Sequences.{Plain, Invoke, Labelled, Framed, Sequence, Then, join, single, plain, constants, stack, on_stack, InLabels, IsBlock, IsLoop, IsIf}
+use Rattle.hph_wasm.specs.PlainRules.{PlainRule, TrapRule}
 
 module _ {H E : Type 0} (host : Host H E) (m : Module) where
   -- The rules: in a store and the locals of a frame, instructions become others in a store and locals. Above each stands the
   -- section whose rule it is.
   pub data Rule : Store H → List Value → Sequence → Store H → List Value → Sequence → Type 0 where
-    -- 4.4.1.1
-    const : (s : Store H) (locals : List Value) (z : ℤ) →
-        Rule s locals (single (Plain (I32Const z))) s locals (single (Constant (value.I32 (i32_bits z))))
+    -- 4.4.1 to 4.4.5
+    plainly : (i : Instr) (s s' : Store H) (locals locals' taken given : List Value) → PlainRule i s locals taken s' locals' given →
+        Rule s locals (on_stack taken (Plain i)) s' locals' (stack given)
     -- 4.4.5.3, 4.4.6.1
     block : (s : Store H) (locals : List Value) (i : Instr) (ty : BlockType) (code : List Instr) → IsBlock i ty code →
         Rule s locals (single (Plain i)) s locals (single (Labelled (arity_of ty) [] (plain code)))
+    -- 4.4.5.4
+    loop : (s : Store H) (locals : List Value) (i : Instr) (code : List Instr) → IsLoop i code →
+        Rule s locals (single (Plain i)) s locals (single (Labelled 0 (i ∷ []) (plain code)))
+    -- 4.4.5.5
+    if_then : (s : Store H) (locals : List Value) (i : Instr) (ty : BlockType) (code others : List Instr) (n : ℕ) → IsIf i ty code others →
+        Rule s locals (on_stack (value.I32 (suc n) ∷ []) (Plain i)) s locals (single (Labelled (arity_of ty) [] (plain code)))
+    if_else : (s : Store H) (locals : List Value) (i : Instr) (ty : BlockType) (code others : List Instr) → IsIf i ty code others →
+        Rule s locals (on_stack (value.I32 0 ∷ []) (Plain i)) s locals (single (Labelled (arity_of ty) [] (plain others)))
+    -- 4.4.5.6
+    branch : (s : Store H) (locals : List Value) (arity : ℕ) (continuation : List Instr) (body : Sequence) (k : ℕ) (top : List Value) →
+        arity ≡ length top → InLabels (on_stack top (Plain (Br k))) k body →
+        Rule s locals (single (Labelled arity continuation body)) s locals (join (stack top) (plain continuation))
+    -- the same to the outermost label, which is the frame's
+    branch_out : (s : Store H) (locals : List Value) (arity : ℕ) (inner : List Value) (body : Sequence) (k : ℕ) (top : List Value) →
+        arity ≡ length top → InLabels (on_stack top (Plain (Br k))) k body →
+        Rule s locals (single (Framed arity inner body)) s locals (stack top)
+    -- 4.4.5.7
+    branch_if : (s : Store H) (locals : List Value) (k n : ℕ) →
+        Rule s locals (on_stack (value.I32 (suc n) ∷ []) (Plain (BrIf k))) s locals (single (Plain (Br k)))
+    -- 4.4.5.8
+    branch_table : (s : Store H) (locals : List Value) (ks : List ℕ) (k n : ℕ) →
+        Rule s locals (on_stack (value.I32 n ∷ []) (Plain (BrTable ks k))) s locals (single (Plain (Br (slice_index_or ks n k))))
+    -- 4.4.5.9
+    return_out : (s : Store H) (locals : List Value) (arity : ℕ) (inner : List Value) (body : Sequence) (k : ℕ) (top : List Value) →
+        arity ≡ length top → InLabels (on_stack top (Plain Return)) k body →
+        Rule s locals (single (Framed arity inner body)) s locals (stack top)
+    -- 4.4.5.10
+    call : (s : Store H) (locals : List Value) (f : ℕ) → Rule s locals (single (Plain (Call f))) s locals (single (Invoke f))
+    -- 4.4.5.11
+    call_indirect : (s : Store H) (locals : List Value) (number n f : ℕ) (ty : FuncType) → slice_get (table_of m) n ≡ Some (Some f) →
+        func_type m f ≡ Some ty → slice_get m.types number ≡ Some ty →
+        Rule s locals (on_stack (value.I32 n ∷ []) (Plain (CallIndirect number))) s locals (single (Invoke f))
     -- 4.4.6.2
     label_end : (s : Store H) (locals : List Value) (arity : ℕ) (continuation : List Instr) (values : List Value) →
         Rule s locals (single (Labelled arity continuation (stack values))) s locals (stack values)
-    -- 4.4.5.10
-    call : (s : Store H) (locals : List Value) (f : ℕ) → Rule s locals (single (Plain (Call f))) s locals (single (Invoke f))
     -- 4.4.7.1
     invoke_function : (s : Store H) (locals : List Value) (f : ℕ) (func : Func) (ty : FuncType) (passed : List Value) →
         slice_get (functions m) f ≡ Some (Defined func) → slice_get m.types func.ty ≡ Some ty →
@@ -143,3 +135,19 @@ RewritesTo host m before after = Rewrites host m before.store before.locals befo
 abbrev pub StepsAreRewritings : {H E : Type 0} → Host H E → Module → Type 0
 StepsAreRewritings {H} {E} host m = (c : Configuration H E) → IfSome (state_of c) (λ before.
     IfSome (state_of (step host m c)) (λ after. RewritesTo host m before after))
+
+-- Where a step ends in a trap, the instruction that was next traps by a rule at the top of the stack.
+abbrev pub IsTrapStep : {H E : Type 0} → Module → (before after : Configuration H E) → Type 0
+IsTrapStep m (Running (i ∷ rest) values at) (Trapped code after) = (code ≡ i ∷ rest) × (after ≡ at) ×
+    (taken : List Value) × (below : List Value) × (values ≡ taken ++ below) × TrapRule m i at.store taken
+IsTrapStep m (Running [] values at) (Trapped code after) = ⊥
+IsTrapStep m (Calling f rest values at) (Trapped code after) = ⊥
+IsTrapStep m _ _ = Unit {0}
+
+-- Each trap is by a rule.
+abbrev pub TrapsAreByRule : {H E : Type 0} → Host H E → Module → Type 0
+TrapsAreByRule {H} {E} host m = (c : Configuration H E) → IsTrapStep m c (step host m c)
+
+-- At most one rule applies, in one place: what a state becomes is determined.
+abbrev pub RewritesOneWay : {H E : Type 0} → Host H E → Module → Type 0
+RewritesOneWay {H} host m = (before a b : State H) → RewritesTo host m before a → RewritesTo host m before b → a ≡ b

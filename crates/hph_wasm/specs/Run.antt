@@ -1,58 +1,27 @@
--- A module's run on a host: from the call of its function main, with its memory as instantiation leaves it
--- (Core Specification 1.0, 4.5.4 and 4.5.5).
-use Rattle.std.specs.Prelude.{◌≡◌, ◌≤◌, ℕ, ◌+◌, ◌*◌, List, [], ◌∷◌, ◌++◌, length, take, drop, replicate, Option, Some, None, if◌then◌else◌, slice_get, bytes_eq, codes}
+-- A module's run on a host: from the call of its function main, with its globals, its table and its memory as instantiation
+-- leaves them (Core Specification 1.0, 4.5.4 and 4.5.5).
+use Rattle.std.specs.Prelude.{◌≡◌, ◌≤◌, ◌⊎◌, ℕ, zero, suc, List, [], ◌∷◌, ◌++◌, length, take, Option, Some, None, if◌then◌else◌, slice_get, bytes_eq, codes}
 use Rattle.std.specs.List.{AllByRecursion}
-use Rattle.hph_wasm.specs.declared.instr.Instr.{Instr, I32Const}
 use Rattle.hph_wasm.specs.declared.types.FuncType.{FuncType}
-use Rattle.hph_wasm.specs.declared.types.Limits.{Limits}
+use Rattle.hph_wasm.specs.declared.module.ImportDesc.{ImportDesc}
+use Rattle.hph_wasm.specs.declared.module.ImportDesc.TheVariants as import_desc
+use Rattle.hph_wasm.specs.declared.module.Import.{Import}
 use Rattle.hph_wasm.specs.declared.module.ExportDesc.{ExportDesc}
 use Rattle.hph_wasm.specs.declared.module.ExportDesc.TheVariants as export_desc
 use Rattle.hph_wasm.specs.declared.module.Export.{Export}
-use Rattle.hph_wasm.specs.declared.module.Segment.{Segment}
 use Rattle.hph_wasm.specs.declared.module.Module.{Module}
-use Rattle.hph_wasm.specs.Values.{i32_bits}
-use Rattle.hph_wasm.specs.Functions.{Function, Imported, Defined, imported_functions, func_type}
-use Rattle.hph_wasm.specs.Outcome.{Trap, More, Outcome, IsPrefix}
+use Rattle.hph_wasm.specs.Choice.{if_some}
+use Rattle.hph_wasm.specs.Functions.{Function, Imported, Defined, functions, func_type}
+use Rattle.hph_wasm.specs.Instantiation.{globals_at_start, memory_at_start}
+use Rattle.hph_wasm.specs.Outcome.{Trap, More, Outcome, IsOver, IsPrefix}
 use Rattle.hph_wasm.specs.Configuration.{Reply, Goes, Stops, Host, Configuration, Running, Calling, Trapped, Stuck, Ended}
-use Rattle.hph_wasm.specs.Reduction.{reduce}
+use Rattle.hph_wasm.specs.Reduction.{step, reduce}
 use Rattle.hph_wasm.specs.Place.{trap_at}
-
--- A page is 65536 bytes (4.2.8), zero at first.
-unfoldable pub zeros : ℕ → List ℕ
-zeros pages = replicate (pages * 65536) 0
-
--- The value of an offset, a constant expression of type i32.
-abbrev pub offset_of : List Instr → ℕ
-offset_of (I32Const z ∷ []) = i32_bits z
-offset_of _ = 0
-
--- The memory with these bytes at an offset.
-abbrev pub memory_with : List ℕ → ℕ → List ℕ → List ℕ
-memory_with memory offset bytes = take offset memory ++ (bytes ++ drop (offset + length bytes) memory)
-
--- Segments are written in their order.
-abbrev pub with_segments : List Segment → List ℕ → List ℕ
-with_segments [] memory = memory
-with_segments (segment ∷ segments) memory = with_segments segments (memory_with memory (offset_of segment.offset) segment.bytes)
-
--- What the memory of a run is at its start; without a memory there are no bytes.
-abbrev pub memory_at_start : List Limits → List Segment → List ℕ
-memory_at_start [] segments = []
-memory_at_start (memory ∷ more) segments = with_segments segments (zeros memory.min)
-
--- A module's first memory is its only one.
-abbrev pub pages_at_start : List Limits → ℕ
-pages_at_start [] = 0
-pages_at_start (memory ∷ more) = memory.min
-
--- Each segment ends within the memory: else there is no instance to run.
-abbrev pub SegmentsFit : Module → Type 0
-SegmentsFit m = AllByRecursion (λ segment. offset_of segment.offset + length segment.bytes ≤ pages_at_start m.memories * 65536)
-    m.segments
 
 -- The number of an exported function.
 abbrev pub function_of : ExportDesc → Option ℕ
 function_of (export_desc.Func f) = Some f
+function_of _ = None
 
 -- The function that is exported under a name.
 abbrev pub exported_function : List ℕ → List Export → Option ℕ
@@ -65,7 +34,7 @@ start state m f = Calling f [] [] (record {
   locals = [];
   labels = [];
   frames = [];
-  store = record { host = state; memory = memory_at_start m.memories m.segments };
+  store = record { host = state; memory = memory_at_start m; globals = globals_at_start m };
 })
 
 -- What an observer sees. One that is stuck is seen as trapped there; runs of valid modules never are.
@@ -86,17 +55,61 @@ run_from host state m (Some f) n = outcome_of host m (reduce host m n (start sta
 abbrev pub wasm : {H E : Type 0} → Host H E → H → Module → ℕ → Outcome E
 wasm host state m n = run_from host state m (exported_function (codes "main") m.exports) n
 
--- The host has an imported function, at the import's type.
-abbrev pub HasRow : {H E : Type 0} → Host H E → Module → Function → Type 0
-HasRow host m (Imported import number) = (ty : FuncType) × (slice_get m.types number ≡ Some ty) ×
-    (row : ℕ) × (host.row import.«module» import.name ty ≡ Some row)
-HasRow host m (Defined func) = Unit {0}
+-- The number of a function of the module's own that a call enters.
+abbrev pub entered_function : Function → ℕ → List ℕ
+entered_function (Imported import number) f = []
+entered_function (Defined func) f = f ∷ []
 
--- The host has all that the module imports, and the module has a function main that takes and gives nothing.
+-- The function that one reduction to this configuration enters.
+abbrev pub entered : {H E : Type 0} → Module → (before after : Configuration H E) → List ℕ
+entered m (Calling f rest values at) (Running code values' at') =
+    if_some (slice_get (functions m) f) [] (λ function. entered_function function f)
+entered m _ _ = []
+
+-- The functions of the module's own that so many reductions enter, in turn.
+abbrev pub entered_in : {H E : Type 0} → Host H E → Module → ℕ → Configuration H E → List ℕ
+entered_in host m zero c = []
+entered_in host m (suc n) c = entered m c (step host m c) ++ entered_in host m n (step host m c)
+
+-- The same of a run from a function that may not be there.
+abbrev pub invoked_from : {H E : Type 0} → Host H E → H → Module → Option ℕ → ℕ → List ℕ
+invoked_from host state m None n = []
+invoked_from host state m (Some f) n = entered_in host m n (start state m f)
+
+-- The functions of the module's own that a run has entered after at most so many reductions, in turn, by number.
+abbrev pub invoked : {H E : Type 0} → Host H E → H → Module → ℕ → List ℕ
+invoked host state m n = invoked_from host state m (exported_function (codes "main") m.exports) n
+
+-- What a run has entered is never taken back, and is all once the run is over.
+pub record IsEntering {E : Type 0} (runs : ℕ → Outcome E) (entering : ℕ → List ℕ) : Type 0 where
+  pub grows : (n k : ℕ) → n ≤ k → IsPrefix (entering n) (entering k)
+  pub stays : (n k : ℕ) → IsOver (runs n) → n ≤ k → entering k ≡ entering n
+
+-- The host has what is imported: a function, at its type. No host has tables, memories and globals.
+abbrev pub HasThing : {H E : Type 0} → Host H E → Module → Import → ImportDesc → Type 0
+HasThing host m import (import_desc.Func number) = (ty : FuncType) × (slice_get m.types number ≡ Some ty) ×
+    (row : ℕ) × (host.row import.«module» import.name ty ≡ Some row)
+HasThing host m import _ = ⊥
+
+-- The same of an import.
+abbrev pub HasImport : {H E : Type 0} → Host H E → Module → Import → Type 0
+HasImport host m import = HasThing host m import import.desc
+
+-- The module has a function main that takes and gives nothing.
+abbrev pub HasMain : Module → Type 0
+HasMain m = (f : ℕ) × (exported_function (codes "main") m.exports ≡ Some f) ×
+    (func_type m f ≡ Some (record { params = []; results = [] }))
+
+-- The host has all that the module imports, and the module has its main.
 pub record IsLinked {H E : Type 0} (host : Host H E) (m : Module) : Type 0 where
-  pub imports : AllByRecursion (HasRow host m) (imported_functions m.imports)
-  pub main : (f : ℕ) × (exported_function (codes "main") m.exports ≡ Some f) ×
-      (func_type m f ≡ Some (record { params = []; results = [] }))
+  pub imports : AllByRecursion (HasImport host m) m.imports
+  pub main : HasMain m
+
+-- The first import that the host doesn't have; where it has all, and there is no main, how many imports there are.
+abbrev pub IsFirstUnlinked : {H E : Type 0} → Host H E → Module → ℕ → Type 0
+IsFirstUnlinked host m k = AllByRecursion (HasImport host m) (take k m.imports) × (
+    ((import : Import) × (slice_get m.imports k ≡ Some import) × (HasImport host m import → ⊥)) ⊎
+    ((k ≡ length m.imports) × (HasMain m → ⊥)))
 
 -- A reply's output goes on from that output.
 abbrev pub KeepsOutput : {H E : Type 0} → Host H E → List ℕ → Reply H E → Type 0

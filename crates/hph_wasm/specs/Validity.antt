@@ -1,21 +1,17 @@
--- Validity (Core Specification 1.0, 3). Stacks of types have the last type first.
-use Rattle.std.specs.Prelude.{◌≡◌, ◌≢◌, ◌<◌, ◌≤◌, ℕ, List, [], ◌∷◌, ◌++◌, length, reverse, option_to_list, Some, IfSome, AllPairs, slice_get}
+-- Validity of instructions (Core Specification 1.0, 3.3). Stacks of types have the last type first. Code behind an instruction that
+-- never goes on is typed from whichever stack makes it valid, which is what its polymorphic type says.
+use Rattle.std.specs.Prelude.{◌≡◌, ◌<◌, ◌≤◌, ◌^◌, ℕ, List, [], ◌∷◌, ◌++◌, length, reverse, option_to_list, Bool, true, Some, slice_get}
 use Rattle.std.specs.List.{AllByRecursion}
-use Rattle.hph_wasm.specs.declared.instr.Instr.{Instr, Block', Call, I32Const, Row_of-Instr, end_of-Instr, more_of-Instr}
+use Rattle.hph_wasm.specs.declared.instr.Instr.{Instr, Unreachable, Nop, Block', Loop', If', Br, BrIf, BrTable, Return, Call, CallIndirect, Drop, Select, LocalGet, LocalSet, LocalTee, GlobalGet, GlobalSet, Load, LoadNarrow, Store, StoreNarrow, I32Const, I64Const, Eqz, Compare, Unary, Binary, Wrap, Extend, Row_of-Instr, end_of-Instr, more_of-Instr, Held-Instr-If-2, None', Some'}
+use Rattle.hph_wasm.specs.declared.instr.MemArg.{MemArg}
 use Rattle.hph_wasm.specs.declared.types.ValType.{ValType}
-use Rattle.hph_wasm.specs.declared.types.ValType.TheVariants.{I32}
+use Rattle.hph_wasm.specs.declared.types.ValType.TheVariants.{I32, I64}
 use Rattle.hph_wasm.specs.declared.types.BlockType.{BlockType}
 use Rattle.hph_wasm.specs.declared.types.FuncType.{FuncType}
-use Rattle.hph_wasm.specs.declared.types.Limits.{Limits}
-use Rattle.hph_wasm.specs.declared.module.ImportDesc.{ImportDesc}
-use Rattle.hph_wasm.specs.declared.module.ImportDesc.TheVariants as import_desc
-use Rattle.hph_wasm.specs.declared.module.ExportDesc.{ExportDesc}
-use Rattle.hph_wasm.specs.declared.module.ExportDesc.TheVariants as export_desc
 use Rattle.hph_wasm.specs.declared.module.Func.{Func}
-use Rattle.hph_wasm.specs.declared.module.Export.{Export}
-use Rattle.hph_wasm.specs.declared.module.Segment.{Segment}
 use Rattle.hph_wasm.specs.declared.module.Module.{Module}
-use Rattle.hph_wasm.specs.Functions.{functions, func_type}
+use Rattle.hph_wasm.specs.Functions.{func_type, tables, memories, globals}
+use Rattle.hph_wasm.specs.Memory.{byte_width, load_type, load_bytes, store_type, store_bytes}
 
 -- What stands around an instruction besides the module (3.1.1): the types of the locals, what a branch to each label takes
 -- from the innermost outwards, and the function's results.
@@ -36,19 +32,66 @@ results_of ty = option_to_list ty.result
 abbrev pub Takes : List ValType → List ValType → List ValType → List ValType → Type 0
 Takes takes gives from to = (below : List ValType) × (from ≡ takes ++ below) × (to ≡ gives ++ below)
 
+-- An instruction takes values of these types and never goes on.
+abbrev pub Ends : List ValType → List ValType → Type 0
+Ends takes from = (below : List ValType) × (from ≡ takes ++ below)
+
+-- There is a memory, and the alignment is at most the size of what is accessed (3.3.4).
+abbrev pub IsAccess : Module → ℕ → MemArg → Type 0
+IsAccess m bytes arg = (0 < length (memories m)) × (2 ^ arg.align ≤ bytes)
+
+-- The global with a number has this type.
+abbrev pub IsGlobal : Module → ℕ → ValType → Bool → Type 0
+IsGlobal m x ty mutable = slice_get (globals m) x ≡ Some (record { value = ty; mutable = mutable })
+
 abbrev mutual
   -- An instruction leads from one stack to another (3.3.1 to 3.3.5).
   pub IsInstr : Module → Context → Instr → List ValType → List ValType → Type 0
+  IsInstr m c Unreachable from to = Unit {0}
+  IsInstr m c Nop from to = from ≡ to
   IsInstr m c (Block' ty shape body) from to = IsRow m (under_label (results_of ty) c) body [] (results_of ty) ×
       Takes [] (results_of ty) from to
+  IsInstr m c (Loop' ty shape body) from to = IsRow m (under_label [] c) body [] (results_of ty) × Takes [] (results_of ty) from to
+  IsInstr m c (If' ty shape body other) from to = IsRow m (under_label (results_of ty) c) body [] (results_of ty) ×
+      IsElse m (under_label (results_of ty) c) other (results_of ty) × Takes (I32 ∷ []) (results_of ty) from to
+  IsInstr m c (Br k) from to = (label : List ValType) × (slice_get c.labels k ≡ Some label) × Ends label from
+  IsInstr m c (BrIf k) from to = (label : List ValType) × (slice_get c.labels k ≡ Some label) × Takes (I32 ∷ label) label from to
+  IsInstr m c (BrTable ks k) from to = (label : List ValType) × (slice_get c.labels k ≡ Some label) ×
+      AllByRecursion (λ j. slice_get c.labels j ≡ Some label) ks × Ends (I32 ∷ label) from
+  IsInstr m c Return from to = Ends c.result from
   IsInstr m c (Call f) from to = (ty : FuncType) × (func_type m f ≡ Some ty) ×
       Takes (reverse ty.params) (reverse ty.results) from to
+  IsInstr m c (CallIndirect number) from to = (ty : FuncType) × (slice_get m.types number ≡ Some ty) × (0 < length (tables m)) ×
+      Takes (I32 ∷ reverse ty.params) (reverse ty.results) from to
+  IsInstr m c Drop from to = (ty : ValType) × Takes (ty ∷ []) [] from to
+  IsInstr m c Select from to = (ty : ValType) × Takes (I32 ∷ ty ∷ ty ∷ []) (ty ∷ []) from to
+  IsInstr m c (LocalGet x) from to = (ty : ValType) × (slice_get c.locals x ≡ Some ty) × Takes [] (ty ∷ []) from to
+  IsInstr m c (LocalSet x) from to = (ty : ValType) × (slice_get c.locals x ≡ Some ty) × Takes (ty ∷ []) [] from to
+  IsInstr m c (LocalTee x) from to = (ty : ValType) × (slice_get c.locals x ≡ Some ty) × Takes (ty ∷ []) (ty ∷ []) from to
+  IsInstr m c (GlobalGet x) from to = (ty : ValType) × (mutable : Bool) × IsGlobal m x ty mutable × Takes [] (ty ∷ []) from to
+  IsInstr m c (GlobalSet x) from to = (ty : ValType) × IsGlobal m x ty true × Takes (ty ∷ []) [] from to
+  IsInstr m c (Load ty arg) from to = IsAccess m (byte_width ty) arg × Takes (I32 ∷ []) (ty ∷ []) from to
+  IsInstr m c (LoadNarrow load arg) from to = IsAccess m (load_bytes load) arg × Takes (I32 ∷ []) (load_type load ∷ []) from to
+  IsInstr m c (Store ty arg) from to = IsAccess m (byte_width ty) arg × Takes (ty ∷ I32 ∷ []) [] from to
+  IsInstr m c (StoreNarrow store arg) from to = IsAccess m (store_bytes store) arg × Takes (store_type store ∷ I32 ∷ []) [] from to
   IsInstr m c (I32Const z) from to = Takes [] (I32 ∷ []) from to
+  IsInstr m c (I64Const z) from to = Takes [] (I64 ∷ []) from to
+  IsInstr m c (Eqz ty) from to = Takes (ty ∷ []) (I32 ∷ []) from to
+  IsInstr m c (Compare ty o) from to = Takes (ty ∷ ty ∷ []) (I32 ∷ []) from to
+  IsInstr m c (Unary ty o) from to = Takes (ty ∷ []) (ty ∷ []) from to
+  IsInstr m c (Binary ty o) from to = Takes (ty ∷ ty ∷ []) (ty ∷ []) from to
+  IsInstr m c Wrap from to = Takes (I64 ∷ []) (I32 ∷ []) from to
+  IsInstr m c (Extend sign) from to = Takes (I32 ∷ []) (I64 ∷ []) from to
 
   -- The same of the instructions inside a block.
   pub IsRow : {n : _} → Module → Context → Row_of-Instr n → List ValType → List ValType → Type 0
   IsRow m c end_of-Instr from to = from ≡ to
   IsRow m c (more_of-Instr i rest) from to = (mid : List ValType) × IsInstr m c i from mid × IsRow m c rest mid to
+
+  -- The same of a second branch; where there is none it has no instructions, so it gives nothing.
+  pub IsElse : Module → Context → Held-Instr-If-2 → List ValType → Type 0
+  IsElse m c None' to = [] ≡ to
+  IsElse m c (Some' shape body) to = IsRow m c body [] to
 
 -- A sequence of instructions leads from one stack to another (3.3.6).
 abbrev pub IsSequence : Module → Context → List Instr → List ValType → List ValType → Type 0
@@ -58,11 +101,6 @@ IsSequence m c (i ∷ rest) from to = (mid : List ValType) × IsInstr m c i from
 -- An expression of the type [results] (3.3.7).
 abbrev pub IsExpression : Module → Context → List Instr → List ValType → Type 0
 IsExpression m c code results = IsSequence m c code [] (reverse results)
-
--- Constant instructions (3.3.7.2).
-abbrev pub IsConstant : Instr → Type 0
-IsConstant (I32Const z) = Unit {0}
-IsConstant _ = ⊥
 
 -- What a function's body stands in: its parameters and locals, and one label that a return goes to (3.4.1).
 abbrev pub body_context : FuncType → Func → Context
@@ -75,43 +113,3 @@ IsBody m ty func = IsExpression m (body_context ty func) func.body ty.results
 -- A function's type is there, and its body has its results (3.4.1).
 abbrev pub IsFunc : Module → Func → Type 0
 IsFunc m func = (ty : FuncType) × (slice_get m.types func.ty ≡ Some ty) × IsBody m ty func
-
--- Limits within a range (3.2.1); a memory's are within 65536 pages (3.2.4).
-abbrev pub IsLimits : ℕ → Limits → Type 0
-IsLimits range limits = (limits.min ≤ range) × IfSome limits.max (λ max. (max ≤ range) × (limits.min ≤ max))
-
--- A function type has at most one result (3.2.2).
-abbrev pub IsFuncType : FuncType → Type 0
-IsFuncType ty = length ty.results ≤ 1
-
--- The type of an import is there (3.4.9).
-abbrev pub IsImportDesc : Module → ImportDesc → Type 0
-IsImportDesc m (import_desc.Func ty) = ty < length m.types
-
--- What is exported is there (3.4.8).
-abbrev pub IsExportDesc : Module → ExportDesc → Type 0
-IsExportDesc m (export_desc.Func f) = f < length (functions m)
-
--- Outside of functions there are no locals and labels.
-abbrev pub outer_context : Context
-outer_context = record { locals = []; labels = []; result = [] }
-
--- A segment's memory is there, and its offset is a constant expression of type i32 (3.4.6).
-abbrev pub IsSegment : Module → Segment → Type 0
-IsSegment m segment = (segment.memory < length m.memories) × IsExpression m outer_context segment.offset (I32 ∷ []) ×
-    AllByRecursion IsConstant segment.offset
-
--- Each name is exported once (3.4.10).
-abbrev pub IsNamedOnce : List Export → Type 0
-IsNamedOnce exports = AllPairs (λ a b. a.name ≢ b.name) exports
-
--- A valid module (3.4.10).
-pub record IsValid (m : Module) : Type 0 where
-  pub types : AllByRecursion IsFuncType m.types
-  pub imports : AllByRecursion (λ import. IsImportDesc m import.desc) m.imports
-  pub funcs : AllByRecursion (IsFunc m) m.funcs
-  pub memories : AllByRecursion (IsLimits 65536) m.memories
-  pub one_memory : length m.memories ≤ 1
-  pub exports : AllByRecursion (λ export. IsExportDesc m export.desc) m.exports
-  pub named_once : IsNamedOnce m.exports
-  pub segments : AllByRecursion (IsSegment m) m.segments

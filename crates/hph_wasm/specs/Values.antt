@@ -5,6 +5,11 @@ use Rattle.hph_wasm.specs.declared.types.ValType.TheVariants.{I32, I64}
 use Rattle.hph_wasm.specs.declared.value.Value.{Value}
 use Rattle.hph_wasm.specs.declared.value.Value.TheVariants as value
 
+-- How many bits the values of a type have.
+abbrev pub width : ValType → ℕ
+width I32 = 32
+width I64 = 64
+
 -- The value of a type that a number is.
 abbrev pub value_of : ValType → ℕ → Value
 value_of I32 n = value.I32 n
@@ -24,6 +29,11 @@ number_of (value.I64 n) = n
 abbrev pub i32_bits : ℤ → ℕ
 i32_bits (pos n) = n
 i32_bits (negsuc n) = 2 ^ 32 - 1 - n
+
+-- The same with 64 bits.
+abbrev pub i64_bits : ℤ → ℕ
+i64_bits (pos n) = n
+i64_bits (negsuc n) = 2 ^ 64 - 1 - n
 
 -- Locals behind the parameters begin with zero (4.4.7.1).
 abbrev pub zero_values : List ValType → List Value

@@ -1,16 +1,19 @@
 // Laws of the definitions in specs/. Each is the contract of a function that does nothing, so that crates above can cite it.
 ghost use Rattle.std.specs.Prelude.{◌≡◌, ℕ, ◌+◌, List, []};
+ghost use Rattle.hph_wasm.specs.declared.types.FuncType.{FuncType};
+ghost use Rattle.hph_wasm.specs.declared.module.Func.{Func};
 ghost use Rattle.hph_wasm.specs.declared.module.Module.{Module};
 ghost use Rattle.hph_wasm.specs.Outcome.{Outcome};
 ghost use Rattle.hph_wasm.specs.Configuration.{Host, Configuration};
 ghost use Rattle.hph_wasm.specs.Reduction.{reduce};
-ghost use Rattle.hph_wasm.specs.Blocks.{BlocksAddTwo, BlocksAreSequences, BlocksAreEntered};
-ghost use Rattle.hph_wasm.specs.Run.{wasm, IsLinked, NeverTakesBack};
+ghost use Rattle.hph_wasm.specs.Blocks.{BlocksAddTwo, BlocksAreSequences, BlocksAreEntered, LoopsAddTwo, LoopsAreSequences, LoopsAreEntered, IfsAddTwo, IfsAreSequences, IfsAreEntered};
+ghost use Rattle.hph_wasm.specs.Run.{wasm, invoked, IsEntering, IsLinked, NeverTakesBack};
 ghost use Rattle.hph_wasm.specs.Opcodes.{TrapsAreAtOpcodes};
 ghost use Rattle.hph_wasm.specs.Safety.{RepliesByType, IsNeverStuck};
-ghost use Rattle.hph_wasm.specs.Validity.{IsValid};
+ghost use Rattle.hph_wasm.specs.ModuleValidity.{IsValid};
+ghost use Rattle.hph_wasm.specs.Faults.{HasOneFault, HasOneFirst};
 ghost use Rattle.hph_wasm.specs.Agrees.{IsRun, Follows, Agrees};
-ghost use Rattle.hph_wasm.specs.Rewriting.{StepsAreRewritings};
+ghost use Rattle.hph_wasm.specs.Rewriting.{StepsAreRewritings, TrapsAreByRule, RewritesOneWay};
 ghost use Rattle.hph_wasm.specs.Php1.{php1, PhpStop};
 
 /// What a host is made of, for laws about any host.
@@ -28,6 +31,7 @@ pub struct Php1;
 
 impl AnyHost for Php1 {
     ghost use Rattle.std.specs.Prelude.{List, ℕ};
+    ghost use Rattle.hph_wasm.specs.Rewriting.{StepsAreRewritings, TrapsAreByRule, RewritesOneWay};
     ghost use Rattle.hph_wasm.specs.Php1.{PhpStop};
 
     ghost State = { List ℕ };
@@ -46,6 +50,34 @@ pub fn blocks_are_entered<H: AnyHost>()
     ensures { (host : Host H.State H.Stop) (m : Module) → BlocksAreEntered host m }
 {}
 
+/// A loop's opcodes and its validity, by the list of the instructions inside.
+pub fn loops_are_sequences()
+    ensures size { LoopsAddTwo }
+    ensures valid { LoopsAreSequences }
+{}
+
+/// A loop's first reduction, by the list of the instructions inside.
+pub fn loops_are_entered<H: AnyHost>()
+    ensures { (host : Host H.State H.Stop) (m : Module) → LoopsAreEntered host m }
+{}
+
+/// An `if`'s opcodes and its validity, by the lists of its branches.
+pub fn ifs_are_sequences()
+    ensures size { IfsAddTwo }
+    ensures valid { IfsAreSequences }
+{}
+
+/// An `if`'s first reduction, by the lists of its branches.
+pub fn ifs_are_entered<H: AnyHost>()
+    ensures { (host : Host H.State H.Stop) (m : Module) → IfsAreEntered host m }
+{}
+
+/// A body has at most one first fault, and none where it is valid; so has a module.
+pub fn first_faults()
+    ensures body { (m : Module) (ty : FuncType) (func : Func) → HasOneFault m ty func }
+    ensures whole { (m : Module) → HasOneFirst m }
+{}
+
 /// Reductions are made in turn.
 pub fn reductions_in_turn<H: AnyHost>()
     ensures { (host : Host H.State H.Stop) (m : Module) (i j : ℕ) (c : Configuration H.State H.Stop) →
@@ -58,18 +90,31 @@ pub fn run_laws<H: AnyHost>()
         NeverTakesBack host → IsRun (wasm host state m) }
 {}
 
+/// No function that a run has entered is taken back, and none is entered once the run is over.
+pub fn entered_laws<H: AnyHost>()
+    ensures { (host : Host H.State H.Stop) (state : H.State) (m : Module) →
+        IsEntering (wasm host state m) (invoked host state m) }
+{}
+
 /// A module whose runs follow a program's does what the program does, and nothing else.
 pub fn both_directions<H: AnyHost>()
     ensures { (program runs : ℕ → Outcome H.Stop) (cost : ℕ → ℕ) →
         IsRun runs → Follows program runs cost → Agrees program runs cost }
 {}
 
-/// Each step between configurations that go on is one rewriting by a rule of the Core Specification 1.0 (4.4).
+/// Each step between configurations that go on is one rewriting by a rule of the Core Specification 1.0 (4.4), and each trap is
+/// by a rule.
 pub fn steps_are_rewritings<H: AnyHost>()
-    ensures { (host : Host H.State H.Stop) (m : Module) → StepsAreRewritings host m }
+    ensures rewritten { (host : Host H.State H.Stop) (m : Module) → StepsAreRewritings host m }
+    ensures trapped { (host : Host H.State H.Stop) (m : Module) → TrapsAreByRule host m }
 {}
 
-/// The place of a trap is the function that runs and the number of the instruction's opcode in its body.
+/// At most one rule applies, in one place of what is rewritten.
+pub fn one_rule_applies<H: AnyHost>()
+    ensures { (host : Host H.State H.Stop) (m : Module) → RewritesOneWay host m }
+{}
+
+/// Where a run has trapped, the place that is seen is the function that runs and the number of the instruction's opcode in its body.
 pub fn traps_are_at_opcodes<H: AnyHost>()
     ensures { (host : Host H.State H.Stop) (m : Module) → TrapsAreAtOpcodes host m }
 {}

@@ -4,22 +4,39 @@
 //! What holds of these are laws, each the contract of a function that does nothing, so that crates above can cite it.
 #![tactic(auto)]
 
+mod checked;
+mod feature;
 mod format;
+mod host;
 mod instr;
 mod laws;
 mod module;
 mod name;
+mod parts;
+mod reading;
 mod types;
 mod value;
 
-pub use format::{numbers_in_range, one_module};
-pub use instr::Instr;
-pub use laws::{
-    AnyHost, Php1, blocks_are_entered, blocks_are_sequences, both_directions, never_stuck,
-    php1_both_directions, php1_never_stuck, php1_runs, reductions_in_turn, run_laws,
-    steps_are_rewritings, traps_are_at_opcodes,
+pub use checked::Checked;
+pub use feature::Feature;
+pub use format::{
+    numbers_in_range, one_module, one_unsupported_feature, opcodes_are_the_tables,
+    unsupported_features_are_met,
 };
-pub use module::{Export, ExportDesc, Func, Import, ImportDesc, Module, Segment};
+pub use host::{Host, HostAnswer};
+pub use instr::{Binary, Comparison, Instr, MemArg, NarrowLoad, NarrowStore, Sign, Unary};
+pub use laws::{
+    AnyHost, Php1, blocks_are_entered, blocks_are_sequences, both_directions, entered_laws,
+    first_faults, ifs_are_entered, ifs_are_sequences, loops_are_entered, loops_are_sequences,
+    never_stuck, one_rule_applies, php1_both_directions, php1_never_stuck, php1_runs,
+    reductions_in_turn, run_laws, steps_are_rewritings, traps_are_at_opcodes,
+};
+pub use module::{Element, Export, ExportDesc, Func, Global, Import, ImportDesc, Module, Segment};
 pub use name::Name;
-pub use types::{BlockType, FuncType, Limits, ValType};
+pub use parts::{
+    instructions_are_read_in_one_way, parts_stop_in_one_place, sections_are_read_in_one_way,
+    types_are_read_in_one_way,
+};
+pub use reading::sections_are_read_in_turn;
+pub use types::{BlockType, FuncType, GlobalType, Limits, ValType};
 pub use value::Value;

@@ -20,9 +20,16 @@ pub struct FuncType {
     pub results: Items<ValType>,
 }
 
-/// The least and the greatest size of a memory, in pages of 65536 bytes (2.3.4, 2.3.5).
+/// The least and the greatest size of a memory, in pages of 65536 bytes, or of a table, in entries (2.3.4 to 2.3.6).
 #[derive(Clone, Copy, Debug, PartialEq, Eq)]
 pub struct Limits {
     pub min: u32,
     pub max: Option<u32>,
+}
+
+/// The type of a global: of its value, and whether it can be set (2.3.7).
+#[derive(Clone, Copy, Debug, PartialEq, Eq)]
+pub struct GlobalType {
+    pub value: ValType,
+    pub mutable: bool,
 }

@@ -1,5 +1,6 @@
 pub mod NumberLaws
 pub mod Vectors
+pub mod Views
 pub mod Blocks
 pub mod Runs
 pub mod Nonempty

@@ -3,7 +3,8 @@ use Rattle.std.proofs.Common.{◌≡◌, ◌<◌, ℕ, ◌^◌, List, [], ◌∷
 use Rattle.std.specs.Prelude.{nat_eq, MatchBool}
 use Rattle.std.specs.List.{AllByRecursion}
 use Rattle.hph_wasm.specs.Leb128.{u32_bytes}
-use Rattle.hph_wasm.specs.Grammar.{Grammar, Each, Vector, RawSection, BeginsWithName, without_custom, Section, NoSections}
+use Rattle.hph_wasm.specs.Grammar.{Grammar, Each, Vector}
+use Rattle.hph_wasm.specs.ModuleGrammar.{RawSection, BeginsWithName, without_custom, Section, NoSections}
 use Rattle.hph_wasm.specs.Spelling.{vector_bytes, section_bytes}
 use Rattle.hph_wenc.proofs.NumberLaws.{NumbersAreSpelled}
 use Rattle.hph_wenc.proofs.SpelledParts.{both, Spelled, bytes_spelled, vector_spelled}

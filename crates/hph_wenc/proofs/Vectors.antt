@@ -1,5 +1,6 @@
 -- How long parts, vectors and their bytes are.
 use Rattle.std.proofs.Common.{◌<◌, ◌≤◌, ◌^◌, ℕ, List, [], ◌∷◌, ◌++◌, length, flat_map, arith, length-append}
+use Rattle.std.specs.Prelude.{Result, Ok, Err, OnOk}
 use Rattle.hph_wasm.specs.Spelling.{vector_bytes, value_type_bytes, func_type_bytes}
 use Rattle.hph_wasm.specs.Leb128.{u32_bytes}
 use Rattle.hph_wasm.specs.declared.types.FuncType.{FuncType}
@@ -28,3 +29,8 @@ params_few ty short = omega (arith, length-le-vector_bytes value_type_bytes ty.p
 -- and few results
 pub results_few : (ty : FuncType) → length (func_type_bytes ty) < 2 ^ 32 → length ty.results < 2 ^ 32
 results_few ty short = omega (arith, length-le-vector_bytes value_type_bytes ty.results (λ t. omega arith), length-append (vector_bytes value_type_bytes ty.params) (vector_bytes value_type_bytes ty.results))
+
+-- what holds by itself and what holds where there was no error hold there together
+pub OnOk-with : {T E A : Type 0} (B : Type 0) (r : Result T E) → A → OnOk r B → OnOk r (A × B)
+OnOk-with B (Ok v) first second = (first, second)
+OnOk-with B (Err e) first second = tt

@@ -3,7 +3,7 @@ ghost use Rattle.std.specs.Prelude.{◌≡◌, ◌<◌, ◌^◌, ◌++◌, lengt
 ghost use Rattle.hph_wasm.specs.Spelling.{export_bytes, export_desc_bytes};
 ghost use Rattle.hph_wenc.specs.Fits.{ExportFits, ExportDescFits};
 
-use crate::byte_codes::FUNC;
+use crate::byte_codes::{FUNC, GLOBAL, MEMORY, TABLE};
 use crate::put::{Put, put_bytes};
 use hph_leb::put_u32;
 use hph_wasm::{Export, ExportDesc};
@@ -28,6 +28,18 @@ fn put_export_desc(out: &mut Vec<u8>, desc: ExportDesc) -> Result<(), AllocError
         ExportDesc::Func(func) => {
             out.push(FUNC)?;
             put_u32(out, func)
+        }
+        ExportDesc::Table(table) => {
+            out.push(TABLE)?;
+            put_u32(out, table)
+        }
+        ExportDesc::Memory(memory) => {
+            out.push(MEMORY)?;
+            put_u32(out, memory)
+        }
+        ExportDesc::Global(global) => {
+            out.push(GLOBAL)?;
+            put_u32(out, global)
         }
     }
 }

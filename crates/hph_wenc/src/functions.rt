@@ -1,6 +1,6 @@
 //! The function section (Core Specification 1.0, 5.5.6).
 ghost use Rattle.std.specs.Prelude.{◌≡◌, map, IfOk};
-ghost use Rattle.hph_wasm.specs.Grammar.{type_of_func};
+ghost use Rattle.hph_wasm.specs.ModuleGrammar.{type_of_func};
 
 use hph_wasm::Func;
 use std::alloc::{AllocError, Global};
@@ -9,5 +9,9 @@ use std::alloc::{AllocError, Global};
 pub fn type_indices(alloc: Global, funcs: &[Func]) -> Result<Vec<u32>, AllocError>
     ensures { IfOk result (λ indices. indices.items ≡ map type_of_func funcs.now) }
 {
-    funcs.iter().map(|func| func.ty).collect(alloc)
+    let mut indices = Vec::new(alloc);
+    for func in funcs {
+        indices.push(func.ty)?;
+    }
+    Ok(indices)
 }

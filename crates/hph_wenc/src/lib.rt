@@ -8,16 +8,22 @@
 mod byte_codes;
 mod code;
 mod data;
+mod elements;
 mod exports;
 mod functions;
+mod globals;
 mod imports;
 mod instructions;
+mod laws;
 mod locals;
 mod memories;
 mod module;
+mod opcodes;
 mod put;
+mod tables;
 #[cfg(test)]
 mod tests;
 mod types;
 
+pub use laws::spellings_are_spelled;
 pub use module::write;

@@ -1,14 +1,15 @@
 //! Modules and their sections (Core Specification 1.0, 5.5).
 ghost use Rattle.std.specs.Prelude.{◌≡◌, ◌<◌, ◌^◌, ◌++◌, length, IfOk, OnOk};
 ghost use Rattle.std.specs.List.{AllByRecursion};
-ghost use Rattle.hph_wasm.specs.Grammar.{SpellsModule};
+ghost use Rattle.hph_wasm.specs.ModuleGrammar.{SpellsModule};
 ghost use Rattle.hph_wasm.specs.Spelling.{section_bytes, spelling, IsWritable};
 ghost use Rattle.hph_wenc.specs.Sections.{section_number};
 
 use crate::code::codes;
 use crate::functions::type_indices;
+use crate::laws::spellings_are_spelled;
 use crate::put::{Put, put_bytes, put_vector};
-use hph_leb::{i32_bytes_are_shortest, u32_bytes_are_shortest};
+use crate::tables::table_types;
 use hph_wasm::Module;
 use std::alloc::{AllocError, Global};
 
@@ -18,8 +19,11 @@ enum SectionId {
     Types = 1,
     Imports = 2,
     Functions = 3,
+    Tables = 4,
     Memories = 5,
+    Globals = 6,
     Exports = 7,
+    Elements = 9,
     Codes = 10,
     Segments = 11,
 }
@@ -34,17 +38,19 @@ pub fn write(alloc: Global, m: &Module) -> Result<Vec<u8>, AllocError>
     ensures shortest { IfOk result (λ bytes. bytes.items ≡ spelling m.now) }
     ensures spelled { IfOk result (λ bytes. SpellsModule bytes.items m.now) }
 {
-    // that what is written of a number spells it
-    u32_bytes_are_shortest();
-    i32_bytes_are_shortest();
+    spellings_are_spelled();
     let indices = type_indices(alloc, m.funcs.as_slice())?;
+    let tables = table_types(alloc, m.tables.as_slice())?;
     let codes = codes(alloc, m.funcs.as_slice())?;
     let mut out = Vec::from_slice(alloc, &HEADER)?;
     put_section(alloc, &mut out, SectionId::Types, m.types.as_slice())?;
     put_section(alloc, &mut out, SectionId::Imports, m.imports.as_slice())?;
     put_section(alloc, &mut out, SectionId::Functions, &indices)?;
+    put_section(alloc, &mut out, SectionId::Tables, &tables)?;
     put_section(alloc, &mut out, SectionId::Memories, m.memories.as_slice())?;
+    put_section(alloc, &mut out, SectionId::Globals, m.globals.as_slice())?;
     put_section(alloc, &mut out, SectionId::Exports, m.exports.as_slice())?;
+    put_section(alloc, &mut out, SectionId::Elements, m.elements.as_slice())?;
     put_section(alloc, &mut out, SectionId::Codes, &codes)?;
     put_section(alloc, &mut out, SectionId::Segments, m.segments.as_slice())?;
     Ok(out)

@@ -3,6 +3,7 @@ ghost use Rattle.std.specs.Prelude.{◌≡◌, ◌<◌, ◌^◌, ◌++◌, ℕ, 
 ghost use Rattle.std.specs.List.{AllByRecursion};
 ghost use Rattle.hph_wasm.specs.Leb128.{u32_bytes};
 ghost use Rattle.hph_wasm.specs.Spelling.{counted_bytes, vector_bytes};
+ghost use Rattle.hph_wenc.specs.Fits.{IndicesFit};
 
 use hph_leb::put_u32;
 use sqlite_items::Items;
@@ -50,6 +51,16 @@ pub fn put_bytes(out: &mut Vec<u8>, bytes: &[u8]) -> Result<(), AllocError>
 {
     put_u32(out, bytes.len() as u32)?;
     out.extend_from_slice(bytes)
+}
+
+/// Adds a vector of indices (5.5.1).
+pub fn put_indices(out: &mut Vec<u8>, indices: &[u32]) -> Result<(), AllocError>
+    requires { length (vector_bytes u32_bytes indices.now) < 2 ^ 32 }
+    ensures put { OnOk result
+        (out.new.items ≡ out.old.items ++ vector_bytes u32_bytes indices.now) }
+    ensures fit { OnOk result (IndicesFit indices.now) }
+{
+    put_vector(out, indices)
 }
 
 /// Adds a vector: how many things, and each of them.

@@ -31,4 +31,7 @@ returns c = rw (
   c.from_vec-2.ensures,
   c.in_ok-vec.ensures.items,
   c.in_ok-from_slice-2.ensures,
+  c.new-8.ensures,
+  c.new-9.ensures,
+  c.new-10.ensures,
 ) (record { short = lit< tt; few_locals = (lit< tt, tt) })
