@@ -1,0 +1,11 @@
+pub mod Values
+pub mod NumericStrings
+pub mod Conversions
+pub mod Operators
+pub mod Comparison
+pub mod Arrays
+pub mod StringFunctions
+pub mod VarDump
+pub mod Builtins
+pub mod Codes
+pub mod Imports
