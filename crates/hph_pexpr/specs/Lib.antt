@@ -1,0 +1,13 @@
+pub mod Steps
+pub mod Endings
+pub mod NestingLaws
+pub mod Next
+pub mod Lists
+pub mod Arrays
+pub mod Strings
+pub mod Classes
+pub mod Primaries
+pub mod Postfix
+pub mod Terms
+pub mod Climb
+pub mod Parser
