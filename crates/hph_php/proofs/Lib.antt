@@ -1,3 +1,6 @@
+pub mod ClassExamples
+pub mod RunExamples
+pub mod Levels
 pub mod CodeLaws
 pub mod ValueLaws
 pub mod ComparisonLaws

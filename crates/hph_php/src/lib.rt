@@ -1,5 +1,6 @@
 //! What PHP programs mean, in the profile of docs/LANGUAGE.md: values, conversions, operators, comparison, arrays,
-//! built-in functions and the imports of a module.
+//! built-in functions and the imports of a module; then the state of a run, what each form of expression and of statement
+//! does with it, and the run of a program. docs/MEANING.md walks a reader through the second half.
 //!
 //! The definitions stand in specs/, one file per subject, each with the manual's page for its rules. The enums here are
 //! the kinds of fatal errors, operators and built-in functions that those definitions and all code above speak of.
