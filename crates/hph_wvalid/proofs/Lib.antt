@@ -1,0 +1,10 @@
+pub mod Rows
+pub mod Pops
+pub mod Checks
+pub mod Views
+pub mod Branches
+pub mod Bodies
+pub mod Labels
+pub mod OutsideLaws
+pub mod Spellings
+pub mod Places
