@@ -19,8 +19,8 @@ use Rattle.hph_pexpr.specs.NestingLaws.{NestingLaws}
 use Rattle.hph_pexpr.specs.declared.form.Form.{Form}
 use Rattle.hph_pexpr.specs.declared.elements.Elements.{Elements}
 use Rattle.hph_pexpr.specs.Endings.{Ends}
-use Rattle.hph_pexpr.specs.Steps.{Parser, Outcome, sees, is_mark}
-use Rattle.hph_pexpr.specs.Next.{is_ampersand}
+use Rattle.hph_cursor.specs.Steps.{Parser, Outcome, sees, is_mark}
+use Rattle.hph_cursor.specs.Next.{is_ampersand}
 use Rattle.hph_pexpr.specs.Arrays as p
 use Rattle.hph_pexpr.proofs.Tools.{then_is, if_true, if_false, mark_is, expect_is}
 use Rattle.hph_pexpr.proofs.Shorter.{item_shorter, items_shorter, targets_shorter}

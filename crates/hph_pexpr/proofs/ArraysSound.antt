@@ -18,8 +18,8 @@ use Rattle.hph_ast.specs.Expressions.{IsExpression, IsPostfix, IsItem, IsItems, 
 use Rattle.hph_pexpr.specs.declared.form.Form.{Form}
 use Rattle.hph_pexpr.specs.declared.form.Form.TheVariants.{Level, Postfix}
 use Rattle.hph_pexpr.specs.declared.elements.Elements.{Elements}
-use Rattle.hph_pexpr.specs.Steps.{Parser}
-use Rattle.hph_pexpr.specs.Next.{is_ampersand}
+use Rattle.hph_cursor.specs.Steps.{Parser}
+use Rattle.hph_cursor.specs.Next.{is_ampersand}
 use Rattle.hph_pexpr.specs.Arrays as p
 use Rattle.hph_pexpr.proofs.Tools.{Gives, none, some, then_ok, map_ok, if_ok, sees_at, sees_with, next_at, next_with, expect_with, Sound, shift}
 

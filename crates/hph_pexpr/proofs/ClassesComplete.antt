@@ -20,8 +20,8 @@ use Rattle.hph_ast.specs.Expressions as g
 use Rattle.hph_ast.specs.Expressions.{IsExpression, IsMember, IsArguments, IsScoped, IsTarget, IsTargetSteps}
 use Rattle.hph_pexpr.specs.NestingLaws.{NestingLaws}
 use Rattle.hph_pexpr.specs.declared.form.Form.{Form}
-use Rattle.hph_pexpr.specs.Steps.{Parser, sees, is_mark}
-use Rattle.hph_pexpr.specs.Next.{class_by}
+use Rattle.hph_cursor.specs.Steps.{Parser, sees, is_mark}
+use Rattle.hph_cursor.specs.Next.{class_by}
 use Rattle.hph_pexpr.specs.Classes as p
 use Rattle.hph_pexpr.specs.Classes.{by_expression}
 use Rattle.hph_pexpr.proofs.Tools.{then_is, choose_some, choose_none, if_true, if_false, mark_is, not_mark, expect_is, opens_sees}

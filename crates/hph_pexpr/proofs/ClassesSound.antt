@@ -23,8 +23,8 @@ use Rattle.hph_ast.specs.Expressions as g
 use Rattle.hph_ast.specs.Expressions.{IsExpression, IsMember, IsScoped, IsTarget, IsTargetSteps}
 use Rattle.hph_pexpr.specs.declared.form.Form.{Form}
 use Rattle.hph_pexpr.specs.declared.form.Form.TheVariants.{Level}
-use Rattle.hph_pexpr.specs.Steps.{Parser, is_mark, sees}
-use Rattle.hph_pexpr.specs.Next.{class_by}
+use Rattle.hph_cursor.specs.Steps.{Parser, is_mark, sees}
+use Rattle.hph_cursor.specs.Next.{class_by}
 use Rattle.hph_pexpr.specs.Classes as p
 use Rattle.hph_pexpr.specs.Classes.{constant_of, by_expression}
 use Rattle.hph_pexpr.proofs.Tools.{some_inj, is_mark_true, Gives, none, some, then_ok, map_ok, choose_ok, if_ok, take_at, expect_at, expect_with, opens_sees, Sound, More, no_more, one_more, closed_as}

@@ -21,8 +21,8 @@ use Rattle.hph_ast.specs.Expressions as g
 use Rattle.hph_ast.specs.Expressions.{IsExpression, IsTail, IsShorts, IsInstances}
 use Rattle.hph_pexpr.specs.NestingLaws.{NestingLaws}
 use Rattle.hph_pexpr.specs.declared.form.Form.{Form}
-use Rattle.hph_pexpr.specs.Steps.{Parser, and_then, sees, is_mark}
-use Rattle.hph_pexpr.specs.Next.{of_next, is_next, binary_of, operator_of, is_instance_of}
+use Rattle.hph_cursor.specs.Steps.{Parser, and_then, sees, is_mark}
+use Rattle.hph_cursor.specs.Next.{of_next, is_next, binary_of, operator_of, is_instance_of}
 use Rattle.hph_pexpr.specs.Classes.{by_expression}
 use Rattle.hph_pexpr.specs.Terms.{term}
 use Rattle.hph_pexpr.specs.Climb as p

@@ -22,8 +22,8 @@ use Rattle.hph_ast.specs.Expressions.{IsExpression, IsTail, IsShorts, IsInstance
 use Rattle.hph_pexpr.specs.declared.form.Form.{Form}
 use Rattle.hph_pexpr.specs.declared.form.Form.TheVariants.{Level}
 use Rattle.hph_pexpr.specs.Endings.{Whole}
-use Rattle.hph_pexpr.specs.Steps.{Parser, is_mark}
-use Rattle.hph_pexpr.specs.Next.{binary_of, operator_of, is_instance_of}
+use Rattle.hph_cursor.specs.Steps.{Parser, is_mark}
+use Rattle.hph_cursor.specs.Next.{binary_of, operator_of, is_instance_of}
 use Rattle.hph_pexpr.specs.Terms.{stopped}
 use Rattle.hph_pexpr.specs.Climb as p
 use Rattle.hph_pexpr.proofs.Tools.{some_inj, is_mark_true, Gives, none, some, then_ok, map_ok, choose_ok, if_ok, sees_at, choose_at, next_at, expect_at, expect_with, Sound, More, no_more, one_more}

@@ -4,7 +4,7 @@ use Rattle.std.proofs.Common.{arith}
 use Rattle.hph_ast.specs.declared.expr.Expr.{Expr}
 use Rattle.hph_pexpr.specs.NestingLaws.{NestingLaws}
 use Rattle.hph_pexpr.specs.declared.form.Form.{Form}
-use Rattle.hph_pexpr.specs.Steps.{Parser}
+use Rattle.hph_cursor.specs.Steps.{Parser}
 use Rattle.hph_pexpr.specs.Parser.{one_form, parse}
 use Rattle.hph_pexpr.proofs.Firsts.{Complete}
 use Rattle.hph_pexpr.proofs.NestingGrows.{postfix_positive, expression_positive}

@@ -24,8 +24,8 @@ use Rattle.hph_ast.specs.Expressions.{IsExpression, IsTerm, IsPostfix, IsPrimary
 use Rattle.hph_pexpr.specs.declared.form.Form.{Form}
 use Rattle.hph_pexpr.specs.declared.form.Form.TheVariants.{Level, Postfix}
 use Rattle.hph_pexpr.specs.Endings.{Ends}
-use Rattle.hph_pexpr.specs.Steps.{Parser, is_mark, sees}
-use Rattle.hph_pexpr.specs.Next.{is_next, pre_update_of, is_ampersand}
+use Rattle.hph_cursor.specs.Steps.{Parser, is_mark, sees}
+use Rattle.hph_cursor.specs.Next.{is_next, pre_update_of, is_ampersand}
 use Rattle.hph_pexpr.proofs.Tools.{not_mark}
 
 -- ---- first tokens

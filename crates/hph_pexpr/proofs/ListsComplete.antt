@@ -18,8 +18,8 @@ use Rattle.hph_ast.specs.Expressions.{IsExpression, IsPostfix, IsArguments, IsAr
 use Rattle.hph_pexpr.specs.NestingLaws.{NestingLaws}
 use Rattle.hph_pexpr.specs.declared.form.Form.{Form}
 use Rattle.hph_pexpr.specs.Endings.{Ends}
-use Rattle.hph_pexpr.specs.Steps.{Parser, sees, is_mark}
-use Rattle.hph_pexpr.specs.Next.{name_before, argument_name}
+use Rattle.hph_cursor.specs.Steps.{Parser, sees, is_mark}
+use Rattle.hph_cursor.specs.Next.{name_before, argument_name}
 use Rattle.hph_pexpr.specs.Lists as p
 use Rattle.hph_pexpr.proofs.Tools.{some_inj, then_is, choose_some, choose_none, if_true, if_false, mark_is, expect_is, opens_sees}
 use Rattle.hph_pexpr.proofs.Shorter.{postfix_shorter, argument_shorter, arguments_shorter}

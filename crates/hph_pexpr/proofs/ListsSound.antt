@@ -14,8 +14,8 @@ use Rattle.hph_ast.specs.Expressions as g
 use Rattle.hph_ast.specs.Expressions.{IsPostfix, IsArguments, IsArgument, IsMaybeArguments, IsPaths}
 use Rattle.hph_pexpr.specs.declared.form.Form.{Form}
 use Rattle.hph_pexpr.specs.declared.form.Form.TheVariants.{Level, Postfix}
-use Rattle.hph_pexpr.specs.Steps.{Parser, is_mark}
-use Rattle.hph_pexpr.specs.Next.{name_before}
+use Rattle.hph_cursor.specs.Steps.{Parser, is_mark}
+use Rattle.hph_cursor.specs.Next.{name_before}
 use Rattle.hph_pexpr.specs.Lists as p
 use Rattle.hph_pexpr.proofs.Tools.{is_mark_true, both_true, opens_sees, Gives, none, some, then_ok, map_ok, choose_ok, if_ok, sees_at, sees_with, expect_with, Sound, Closed, closes, closes_behind, one_closed, closed_as}
 

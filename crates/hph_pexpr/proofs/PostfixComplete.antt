@@ -19,7 +19,7 @@ use Rattle.hph_pexpr.specs.declared.form.Form.{Form}
 use Rattle.hph_pexpr.specs.declared.turn.Turn.{Turn}
 use Rattle.hph_pexpr.specs.declared.turn.Turn.TheVariants.{Longer, Whole}
 use Rattle.hph_pexpr.specs.Endings.{Ends}
-use Rattle.hph_pexpr.specs.Steps.{Parser, sees, is_mark}
+use Rattle.hph_cursor.specs.Steps.{Parser, sees, is_mark}
 use Rattle.hph_pexpr.specs.Postfix as p
 use Rattle.hph_pexpr.proofs.Tools.{then_is, if_true, if_false, mark_is, expect_is, opens_sees}
 use Rattle.hph_pexpr.proofs.Shorter.{expression_shorter, step_shorter, steps_shorter, member_shorter, arguments_shorter, scoped_shorter}
@@ -175,7 +175,7 @@ module _ (laws : NestingLaws) (depth : ℕ) (below : Form → Parser Expr) (all 
 
   goes_on_from_is : (n : ℕ) {x y : Expr} {ts rest : List Token} → GoesOn x ts y rest → length ts ≤ n → nesting y ≤ suc depth → Ends rest →
       p.goes_on_from below n x ts ≡ Some (y, rest)
-  unfolding p.goes_on_from p.steps
+  unfolding p.goes_on_from p.one_turn p.steps
   goes_on_from_is zero (g.no_steps g.ends) short small ends = refl
   goes_on_from_is zero (g.no_steps (g.method read arrow d opens args more)) short small ends = absurd (omega arith)
   goes_on_from_is zero (g.no_steps (g.call_of read callable opens args more)) short small ends = absurd (omega arith)
@@ -186,8 +186,8 @@ module _ (laws : NestingLaws) (depth : ℕ) (below : Form → Parser Expr) (all 
       let deep = by_call_deep laws a.more in
       let t = turn_is a.more small ends in
       let steps_use = steps_shorter a.are in
-      then_is _ (steps_from_is (length ts) [] a.are t.stops (omega arith) (steps_deep laws depth x a.steps (omega arith))) (then_is _ t.is
-      (turned_is (p.goes_on_from below n) (λ z us more less. goes_on_from_is n more (omega arith) small ends) t.after))
+      then_is _ (then_is _ (steps_from_is (length ts) [] a.are t.stops (omega arith) (steps_deep laws depth x a.steps (omega arith))) t.is)
+      (turned_is (p.goes_on_from below n) (λ z us more less. goes_on_from_is n more (omega arith) small ends) t.after)
 
   pub goes_on_is : {x y : Expr} {ts rest : List Token} → GoesOn x ts y rest → nesting y ≤ suc depth → Ends rest →
       p.goes_on below x ts ≡ Some (y, rest)

@@ -17,7 +17,7 @@ use Rattle.hph_pexpr.specs.declared.form.Form.{Form}
 use Rattle.hph_pexpr.specs.declared.form.Form.TheVariants.{Level}
 use Rattle.hph_pexpr.specs.declared.turn.Turn.{Turn}
 use Rattle.hph_pexpr.specs.declared.turn.Turn.TheVariants.{Longer, Whole}
-use Rattle.hph_pexpr.specs.Steps.{Parser, sees}
+use Rattle.hph_cursor.specs.Steps.{Parser, sees}
 use Rattle.hph_pexpr.specs.Classes.{by_expression}
 use Rattle.hph_pexpr.specs.Postfix as p
 use Rattle.hph_pexpr.proofs.Tools.{Gives, none, some, then_ok, map_ok, if_ok, sees_at, expect_with, opens_sees, is_mark_true, both_true, Sound, shift, closed_as}
@@ -57,6 +57,13 @@ data TurnOf (x : Expr) (mid : List Token) : Turn → List Token → Type 0 where
   longer : {y : Expr} {us : List Token} → ((z : Expr) (rest : List Token) → GoesOn y us z rest → GoesOnByCall x mid z rest) →
       TurnOf x mid (Longer y) us
   whole : TurnOf x mid (Whole x) mid
+
+-- steps, and a call or a member behind them
+record OneTurn (x : Expr) (ts : List Token) (turn : Turn) (rest : List Token) : Type 0 where
+  steps : List Step
+  mid : List Token
+  are : IsSteps ts steps mid
+  of : TurnOf (with_steps x steps) mid turn rest
 
 turned_ok : {ts mid vs : List Token} {turn : Turn} (x : Expr) (go : Expr → Parser Expr) →
     ((y : Expr) (us : List Token) → Gives (GoesOn y us) (go y us)) → (ss : List Step) → IsSteps ts ss mid →
@@ -124,12 +131,15 @@ module _ (below : Form → Parser Expr) (ok : Sound below) where
       then_ok (scoped_ok below ok (by_expression x) ts) (λ y rest d. some (member_of_ok x b.0 b.1 d)))
       (λ _. some whole))
 
+  one_turn_ok : (x : Expr) (ts : List Token) → Gives (OneTurn x ts) (p.one_turn below x ts)
+  unfolding p.one_turn p.steps
+  one_turn_ok x ts = then_ok (steps_from_ok (length ts) [] ts) (λ r us f. map_ok (turn_ok (with_steps x r.0) f.stop) (λ turn vs d.
+      record { steps = r.0; mid = f.mid; are = subst (λ ss. IsSteps ts ss f.mid) (sym f.is_all) f.is; of = d }))
+
   goes_on_from_ok : (n : ℕ) (x : Expr) (ts : List Token) → Gives (GoesOn x ts) (p.goes_on_from below n x ts)
-  unfolding p.goes_on_from p.steps
+  unfolding p.goes_on_from
   goes_on_from_ok zero x ts = some (g.no_steps g.ends)
-  goes_on_from_ok (suc n) x ts =
-      then_ok (steps_from_ok (length ts) [] ts) (λ r us f. then_ok (turn_ok (with_steps x r.0) f.stop) (λ turn vs d.
-      turned_ok x (p.goes_on_from below n) (goes_on_from_ok n) r.0 (subst (λ ss. IsSteps ts ss f.mid) (sym f.is_all) f.is) d))
+  goes_on_from_ok (suc n) x ts = then_ok (one_turn_ok x ts) (λ turn vs d. turned_ok x (p.goes_on_from below n) (goes_on_from_ok n) d.steps d.are d.of)
 
   pub goes_on_ok : (ts mid : List Token) (x : Expr) → ((z : Expr) (rest : List Token) → GoesOn x mid z rest → IsPostfix ts z rest) →
       Gives (IsPostfix ts) (p.goes_on below x mid)

@@ -19,7 +19,7 @@ use Rattle.hph_ast.specs.Expressions as g
 use Rattle.hph_ast.specs.Expressions.{IsPrimary, IsScoped, IsMaybeArguments}
 use Rattle.hph_pexpr.specs.NestingLaws.{NestingLaws}
 use Rattle.hph_pexpr.specs.declared.form.Form.{Form}
-use Rattle.hph_pexpr.specs.Steps.{Parser, sees, is_mark}
+use Rattle.hph_cursor.specs.Steps.{Parser, sees, is_mark}
 use Rattle.hph_pexpr.specs.Lists.{maybe_arguments}
 use Rattle.hph_pexpr.specs.Classes.{by_expression}
 use Rattle.hph_pexpr.specs.Primaries as p

@@ -24,7 +24,7 @@ use Rattle.hph_ast.specs.Expressions.{IsExpression, IsPrimary, IsItems, IsMaybeA
 use Rattle.hph_pexpr.specs.declared.form.Form.{Form}
 use Rattle.hph_pexpr.specs.declared.form.Form.TheVariants.{Level}
 use Rattle.hph_pexpr.specs.declared.elements.Elements.{Elements}
-use Rattle.hph_pexpr.specs.Steps.{Parser, sees}
+use Rattle.hph_cursor.specs.Steps.{Parser, sees}
 use Rattle.hph_pexpr.specs.Classes.{scoped}
 use Rattle.hph_pexpr.specs.Primaries as p
 use Rattle.hph_pexpr.specs.Primaries.{array_of}

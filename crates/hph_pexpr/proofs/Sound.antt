@@ -3,7 +3,7 @@ use Rattle.std.specs.Prelude.{ℕ, zero, suc}
 use Rattle.hph_ast.specs.declared.expr.Expr.{Expr}
 use Rattle.hph_pexpr.specs.declared.form.Form.{Form}
 use Rattle.hph_pexpr.specs.declared.form.Form.TheVariants.{Level, Postfix}
-use Rattle.hph_pexpr.specs.Steps.{Parser}
+use Rattle.hph_cursor.specs.Steps.{Parser}
 use Rattle.hph_pexpr.specs.Parser.{one_form, parse}
 use Rattle.hph_pexpr.proofs.Tools.{none, Sound}
 use Rattle.hph_pexpr.proofs.PostfixSound.{postfix_ok}

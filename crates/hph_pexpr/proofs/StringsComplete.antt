@@ -15,8 +15,8 @@ use Rattle.hph_ast.specs.Expressions as g
 use Rattle.hph_ast.specs.Expressions.{IsInterpolation, IsParts}
 use Rattle.hph_pexpr.specs.NestingLaws.{NestingLaws}
 use Rattle.hph_pexpr.specs.declared.form.Form.{Form}
-use Rattle.hph_pexpr.specs.Steps.{Parser, sees, is_mark}
-use Rattle.hph_pexpr.specs.Next.{is_variable}
+use Rattle.hph_cursor.specs.Steps.{Parser, sees, is_mark}
+use Rattle.hph_cursor.specs.Next.{is_variable}
 use Rattle.hph_pexpr.specs.Strings as p
 use Rattle.hph_pexpr.proofs.Tools.{then_is, choose_some, choose_none, if_true, if_false, mark_is, expect_is}
 use Rattle.hph_pexpr.proofs.Shorter.{interpolation_shorter, parts_shorter}

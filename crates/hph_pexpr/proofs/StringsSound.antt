@@ -16,8 +16,8 @@ use Rattle.hph_ast.specs.Expressions as g
 use Rattle.hph_ast.specs.Expressions.{IsExpression, IsInterpolation, IsParts, IsPrimary}
 use Rattle.hph_pexpr.specs.declared.form.Form.{Form}
 use Rattle.hph_pexpr.specs.declared.form.Form.TheVariants.{Level}
-use Rattle.hph_pexpr.specs.Steps.{Parser}
-use Rattle.hph_pexpr.specs.Next.{is_variable}
+use Rattle.hph_cursor.specs.Steps.{Parser}
+use Rattle.hph_cursor.specs.Next.{is_variable}
 use Rattle.hph_pexpr.specs.Strings as p
 use Rattle.hph_pexpr.proofs.Tools.{some_inj, Gives, none, some, then_ok, map_ok, choose_ok, if_ok, sees_at, take_at, take_with, expect_at, expect_with, Sound, Closed}
 

@@ -27,8 +27,8 @@ use Rattle.hph_ast.specs.Expressions.{IsTerm, IsPostfix, IsPrimary, IsItems, IsS
 use Rattle.hph_pexpr.specs.NestingLaws.{NestingLaws}
 use Rattle.hph_pexpr.specs.declared.form.Form.{Form}
 use Rattle.hph_pexpr.specs.Endings.{Ends}
-use Rattle.hph_pexpr.specs.Steps.{Parser, sees, is_mark}
-use Rattle.hph_pexpr.specs.Next.{of_next, is_next, assignment_of, pre_update_of, post_update_of, is_set, is_set_kind, is_ampersand}
+use Rattle.hph_cursor.specs.Steps.{Parser, sees, is_mark}
+use Rattle.hph_cursor.specs.Next.{of_next, is_next, assignment_of, pre_update_of, post_update_of, is_set, is_set_kind, is_ampersand}
 use Rattle.hph_pexpr.specs.Terms as p
 use Rattle.hph_pexpr.proofs.Tools.{then_is, choose_some, choose_none, if_true, if_false, mark_is}
 use Rattle.hph_pexpr.proofs.Firsts.{Complete, ends_by, ends_at, no_ampersand, expression_heads, Begins, begins, postfix_begins, prefix_top}

@@ -23,8 +23,8 @@ use Rattle.hph_ast.specs.Expressions.{IsExpression, IsTerm, IsPostfix, IsTargets
 use Rattle.hph_pexpr.specs.declared.form.Form.{Form}
 use Rattle.hph_pexpr.specs.declared.form.Form.TheVariants.{Level}
 use Rattle.hph_pexpr.specs.declared.elements.Elements.{Elements}
-use Rattle.hph_pexpr.specs.Steps.{Parser, sees}
-use Rattle.hph_pexpr.specs.Next.{is_next, assignment_of, pre_update_of, post_update_of, is_set, is_set_kind, is_ampersand}
+use Rattle.hph_cursor.specs.Steps.{Parser, sees}
+use Rattle.hph_cursor.specs.Next.{is_next, assignment_of, pre_update_of, post_update_of, is_set, is_set_kind, is_ampersand}
 use Rattle.hph_pexpr.specs.Terms as p
 use Rattle.hph_pexpr.proofs.Tools.{some_inj, both_true, is_mark_true, Gives, none, some, then_ok, choose_ok, if_ok, Sound}
 use Rattle.hph_pexpr.proofs.ArraysSound.{Found, ampersand_true, elements_ok}

@@ -16,9 +16,9 @@ use Rattle.hph_ast.specs.Terminals.{IsMark}
 use Rattle.hph_ast.specs.Expressions.{IsPostfix}
 use Rattle.hph_pexpr.specs.declared.form.Form.{Form}
 use Rattle.hph_pexpr.specs.declared.form.Form.TheVariants.{Level, Postfix}
-use Rattle.hph_pexpr.specs.Next.{of_next, is_next}
+use Rattle.hph_cursor.specs.Next.{of_next, is_next}
 use Rattle.hph_pexpr.specs.Endings.{Whole}
-use Rattle.hph_pexpr.specs.Steps.{choose, Outcome, Parser, and_then, is_mark, sees, take_token, expect}
+use Rattle.hph_cursor.specs.Steps.{choose, Outcome, Parser, and_then, is_mark, sees, take_token, expect}
 
 pub both_true : (x y : Bool) → (x && y) ≡ true → (x ≡ true) × (y ≡ true)
 both_true true y h = (refl, h)

@@ -10,8 +10,8 @@ use Rattle.hph_ast.specs.Shapes.{is_source}
 use Rattle.hph_pexpr.specs.declared.form.Form.{Form}
 use Rattle.hph_pexpr.specs.declared.form.Form.TheVariants.{Level, Postfix}
 use Rattle.hph_pexpr.specs.declared.elements.Elements.{Elements}
-use Rattle.hph_pexpr.specs.Steps.{Parser, ◌>>=◌, ◌>>◌, pure, pure_if, sees, expect, take_token}
-use Rattle.hph_pexpr.specs.Next.{is_next, is_ampersand}
+use Rattle.hph_cursor.specs.Steps.{Parser, ◌>>=◌, ◌>>◌, pure, pure_if, sees, expect, take_token}
+use Rattle.hph_cursor.specs.Next.{is_next, is_ampersand}
 
 module _ (below : Form → Parser Expr) where
   -- a path behind `&`

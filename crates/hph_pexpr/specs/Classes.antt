@@ -17,8 +17,8 @@ use Rattle.hph_ast.specs.Terminals.{is_class_word}
 use Rattle.hph_ast.specs.Places.{place, class_place, on, span, with_steps}
 use Rattle.hph_pexpr.specs.declared.form.Form.{Form}
 use Rattle.hph_pexpr.specs.declared.form.Form.TheVariants.{Level}
-use Rattle.hph_pexpr.specs.Steps.{Parser, choose, ◌>>=◌, ◌>>◌, pure, fail, sees, expect, take_token}
-use Rattle.hph_pexpr.specs.Next.{class_by}
+use Rattle.hph_cursor.specs.Steps.{Parser, choose, ◌>>=◌, ◌>>◌, pure, fail, sees, expect, take_token}
+use Rattle.hph_cursor.specs.Next.{class_by}
 use Rattle.hph_pexpr.specs.Lists.{arguments}
 
 -- `C::NAME`

@@ -11,8 +11,8 @@ use Rattle.hph_ast.specs.Levels.{grouping, ternary_level, top, next}
 use Rattle.hph_ast.specs.Places.{place, span, last_operand, last_expr, last_class}
 use Rattle.hph_pexpr.specs.declared.form.Form.{Form}
 use Rattle.hph_pexpr.specs.declared.form.Form.TheVariants.{Level}
-use Rattle.hph_pexpr.specs.Steps.{Parser, choose, ◌>>=◌, ◌>>◌, pure, sees, expect, take_token}
-use Rattle.hph_pexpr.specs.Next.{of_next, is_next, binary_of, operator_of, is_instance_of}
+use Rattle.hph_cursor.specs.Steps.{Parser, choose, ◌>>=◌, ◌>>◌, pure, sees, expect, take_token}
+use Rattle.hph_cursor.specs.Next.{of_next, is_next, binary_of, operator_of, is_instance_of}
 use Rattle.hph_pexpr.specs.Classes.{class_reference}
 use Rattle.hph_pexpr.specs.Terms.{stopped, term}
 

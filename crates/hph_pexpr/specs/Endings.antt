@@ -5,7 +5,7 @@ use Rattle.hph_ast.specs.declared.token.Mark.TheVariants as m
 use Rattle.hph_ast.specs.declared.expr.Expr.{Expr}
 use Rattle.hph_ast.specs.Levels.{Stops}
 use Rattle.hph_ast.specs.Expressions.{IsExpression}
-use Rattle.hph_pexpr.specs.Steps.{sees}
+use Rattle.hph_cursor.specs.Steps.{sees}
 
 -- the tokens up to the rest spell an expression of this level, and it does not go on
 pub record Whole (level : ℕ) (tokens : List Token) (x : Expr) (rest : List Token) : Type 0 where

@@ -1,7 +1,5 @@
-pub mod Steps
 pub mod Endings
 pub mod NestingLaws
-pub mod Next
 pub mod Lists
 pub mod Arrays
 pub mod Strings

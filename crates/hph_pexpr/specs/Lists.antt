@@ -8,8 +8,8 @@ use Rattle.hph_ast.specs.Places.{place, on, span}
 use Rattle.hph_ast.specs.Shapes.{is_read}
 use Rattle.hph_pexpr.specs.declared.form.Form.{Form}
 use Rattle.hph_pexpr.specs.declared.form.Form.TheVariants.{Level, Postfix}
-use Rattle.hph_pexpr.specs.Steps.{Parser, choose, ◌>>=◌, ◌>>◌, pure, pure_if, sees, expect, take_token}
-use Rattle.hph_pexpr.specs.Next.{argument_name}
+use Rattle.hph_cursor.specs.Steps.{Parser, choose, ◌>>=◌, ◌>>◌, pure, pure_if, sees, expect, take_token}
+use Rattle.hph_cursor.specs.Next.{argument_name}
 
 -- The parser of what is nested one deeper.
 module _ (below : Form → Parser Expr) where

@@ -13,7 +13,7 @@ use Rattle.hph_pexpr.specs.declared.form.Form.{Form}
 use Rattle.hph_pexpr.specs.declared.form.Form.TheVariants.{Level}
 use Rattle.hph_pexpr.specs.declared.turn.Turn.{Turn}
 use Rattle.hph_pexpr.specs.declared.turn.Turn.TheVariants.{Longer, Whole}
-use Rattle.hph_pexpr.specs.Steps.{Parser, ◌>>=◌, ◌>>◌, pure, sees, expect, take_token}
+use Rattle.hph_cursor.specs.Steps.{Parser, ◌>>=◌, ◌>>◌, pure, sees, expect, take_token}
 use Rattle.hph_pexpr.specs.Lists.{arguments}
 use Rattle.hph_pexpr.specs.Classes.{by_expression, member, scoped}
 use Rattle.hph_pexpr.specs.Primaries.{primary}
@@ -58,10 +58,14 @@ module _ (below : Form → Parser Expr) where
       (scoped below (by_expression x) >>= λ y. pure (Longer y)) ts
       else Some (Whole x, ts))
 
+  -- steps, and a call or a member behind them
+  unfoldable pub one_turn : Expr → Parser Turn
+  one_turn x = steps >>= λ r. turn (with_steps x r.0) r.1
+
   -- steps, calls and members, as long as there are any
   unfoldable pub goes_on_from : ℕ → Expr → Parser Expr
   goes_on_from zero x ts = Some (x, ts)
-  goes_on_from (suc n) x ts = (steps >>= λ r. turn (with_steps x r.0) r.1 >>= turned (goes_on_from n)) ts
+  goes_on_from (suc n) x ts = (one_turn x >>= turned (goes_on_from n)) ts
 
   unfoldable pub goes_on : Expr → Parser Expr
   goes_on x ts = goes_on_from (length ts) x ts

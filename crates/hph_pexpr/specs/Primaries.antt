@@ -16,7 +16,7 @@ use Rattle.hph_ast.specs.Shapes.{is_path}
 use Rattle.hph_pexpr.specs.declared.form.Form.{Form}
 use Rattle.hph_pexpr.specs.declared.form.Form.TheVariants.{Level}
 use Rattle.hph_pexpr.specs.declared.elements.Elements.{Elements}
-use Rattle.hph_pexpr.specs.Steps.{Parser, ◌>>=◌, ◌>>◌, pure, pure_if, fail, sees, expect, take_token}
+use Rattle.hph_cursor.specs.Steps.{Parser, ◌>>=◌, ◌>>◌, pure, pure_if, fail, sees, expect, take_token}
 use Rattle.hph_pexpr.specs.Lists.{arguments, maybe_arguments, paths}
 use Rattle.hph_pexpr.specs.Arrays.{elements}
 use Rattle.hph_pexpr.specs.Strings.{interpolated}

@@ -14,8 +14,8 @@ use Rattle.hph_ast.specs.declared.expr.StringPart.TheVariants as part
 use Rattle.hph_ast.specs.Places.{on, span}
 use Rattle.hph_pexpr.specs.declared.form.Form.{Form}
 use Rattle.hph_pexpr.specs.declared.form.Form.TheVariants.{Level}
-use Rattle.hph_pexpr.specs.Steps.{Parser, choose, ◌>>=◌, ◌>>◌, pure, fail, sees, expect, take_token}
-use Rattle.hph_pexpr.specs.Next.{is_next, is_variable}
+use Rattle.hph_cursor.specs.Steps.{Parser, choose, ◌>>=◌, ◌>>◌, pure, fail, sees, expect, take_token}
+use Rattle.hph_cursor.specs.Next.{is_next, is_variable}
 
 abbrev pub key_by : Token → Kind → Option Expr
 key_by t (k.Name name) = Some (e.Text (on t) name)

@@ -14,8 +14,8 @@ use Rattle.hph_ast.specs.Shapes.{is_read, is_written, is_source}
 use Rattle.hph_pexpr.specs.declared.form.Form.{Form}
 use Rattle.hph_pexpr.specs.declared.form.Form.TheVariants.{Level}
 use Rattle.hph_pexpr.specs.declared.elements.Elements.{Elements}
-use Rattle.hph_pexpr.specs.Steps.{Parser, choose, ◌>>=◌, ◌>>◌, pure, sees, take_token}
-use Rattle.hph_pexpr.specs.Next.{of_next, is_next, assignment_of, pre_update_of, post_update_of, is_set, is_set_kind, is_ampersand}
+use Rattle.hph_cursor.specs.Steps.{Parser, choose, ◌>>=◌, ◌>>◌, pure, sees, take_token}
+use Rattle.hph_cursor.specs.Next.{of_next, is_next, assignment_of, pre_update_of, post_update_of, is_set, is_set_kind, is_ampersand}
 use Rattle.hph_pexpr.specs.Arrays.{elements}
 use Rattle.hph_pexpr.specs.Primaries.{array_of}
 use Rattle.hph_pexpr.specs.Postfix.{goes_on, postfix}

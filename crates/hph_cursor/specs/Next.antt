@@ -15,7 +15,7 @@ use Rattle.hph_ast.specs.declared.expr.ClassReference.{ClassReference}
 use Rattle.hph_ast.specs.declared.expr.ClassReference.TheVariants as c
 use Rattle.hph_ast.specs.Levels.{level}
 use Rattle.hph_ast.specs.Places.{on}
-use Rattle.hph_pexpr.specs.Steps.{is_mark}
+use Rattle.hph_cursor.specs.Steps.{is_mark}
 
 -- what the kind of the next token gives
 abbrev pub of_next : {A : Type 0} → (Kind → Option A) → List Token → Option A

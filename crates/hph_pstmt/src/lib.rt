@@ -1,0 +1,9 @@
+//! Statements, functions, classes and files from tokens (PHP manual, Control Structures, Functions, Classes and Objects).
+//!
+//! specs/ has the parser as functions on lists of tokens, over the parser of expressions. It reads what the grammar of the
+//! library of trees says, and nothing else: the laws of src/laws.rt.
+#![tactic(auto)]
+
+mod laws;
+
+pub use laws::{files_are_read, one_file, one_statement, statements_are_read};
