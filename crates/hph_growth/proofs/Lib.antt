@@ -1,0 +1,13 @@
+pub mod GrowthLaws
+pub mod StateLaws
+pub mod WriteLaws
+pub mod TargetLaws
+pub mod Worlds
+pub mod CallLaws
+pub mod ClassLaws
+pub mod OperationLaws
+pub mod StatementLaws
+pub mod Levels
+pub mod ExpressionLaws
+pub mod ExecutionLaws
+pub mod RunLaws
