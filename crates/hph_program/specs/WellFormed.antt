@@ -1,0 +1,63 @@
+-- When a program is well-formed: what the passes behind the front end may take for granted of it, and nothing else. The trees come
+-- from some tokens, which needn't be those of the files, so that a program may be changed and stay well-formed. This project's own.
+use Rattle.std.specs.Prelude.{◌≡◌, ◌≤◌, ℕ, List, length, map, All, Contains, sum_by, None}
+use Rattle.std.specs.List.{AllZip}
+use Rattle.hph_ast.specs.declared.token.Token.{Token}
+use Rattle.hph_ast.specs.declared.token.Kind.{Kind}
+use Rattle.hph_ast.specs.declared.token.Kind.TheVariants as k
+use Rattle.hph_ast.specs.declared.program.File.{File}
+use Rattle.hph_ast.specs.declared.program.FileTree.{FileTree}
+use Rattle.hph_ast.specs.declared.program.Program.{Program}
+use Rattle.hph_ast.specs.StatementNesting.{SpellsTree}
+use Rattle.hph_ast.specs.RefusedStatements.{tree_construct}
+use Rattle.hph_php.specs.Declarations.{path_of}
+use Rattle.hph_program.specs.Sites.{numbered_trees}
+use Rattle.hph_program.specs.Sources.{included}
+use Rattle.hph_program.specs.Program.{files_limit}
+use Rattle.hph_program.specs.Names.{AgreesOnNames}
+
+-- ---- limits of tokens
+
+-- the bytes that a token holds beside its place
+abbrev pub held_bytes : Kind → ℕ
+held_bytes (k.InlineText bytes) = length bytes
+held_bytes (k.Text bytes) = length bytes
+held_bytes (k.TextHead bytes) = length bytes
+held_bytes (k.TextMiddle bytes) = length bytes
+held_bytes (k.TextTail bytes) = length bytes
+held_bytes (k.Variable name) = length name
+held_bytes (k.Name name) = length name
+held_bytes _ = 0
+
+abbrev pub tokens_limit : ℕ
+tokens_limit = 4194304
+
+abbrev pub token_bytes_limit : ℕ
+token_bytes_limit = 134217728
+
+-- ---- trees
+
+-- tokens spell a tree that has no refused construct
+pub record IsSpelled (tokens : List Token) (tree : FileTree) : Type 0 where
+  pub spells : SpellsTree tokens tree
+  pub no_construct : tree_construct tree ≡ None
+
+-- ---- includes
+
+-- each file that a file includes is one of the program
+abbrev pub IncludesItsFiles : Program → Type 0
+IncludesItsFiles p = All (λ (f : File). All (Contains (map path_of p.files)) (included f)) p.files
+
+-- ---- programs
+
+pub record IsWellFormed (p : Program) : Type 0 where
+  pub few : length p.files ≤ files_limit
+  -- the tokens of each file, and the tree that they spell, whose sites have no numbers
+  pub tokens : List (List Token)
+  pub trees : List FileTree
+  pub spelled : AllZip IsSpelled tokens trees
+  pub few_tokens : sum_by (λ (ts : List Token). length ts) tokens ≤ tokens_limit
+  pub few_bytes : sum_by (λ ts. sum_by (λ (t : Token). held_bytes t.kind) ts) tokens ≤ token_bytes_limit
+  pub numbered : map (λ (f : File). f.tree) p.files ≡ numbered_trees trees
+  pub includes : IncludesItsFiles p
+  pub names : AgreesOnNames p

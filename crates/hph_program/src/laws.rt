@@ -1,0 +1,14 @@
+//! Laws of programs: contracts of functions that do nothing.
+
+ghost use Rattle.hph_program.specs.Laws.{TokensAreOne, TreesAreOne, ProgramsAreOne, ContentsDecide};
+
+/// From a main file on a source tree has at most one program, where bytes spell at most one list of tokens and tokens at most
+/// one tree. How much room the texts of its paths have is left open.
+pub fn one_program()
+    ensures { TokensAreOne → TreesAreOne → ProgramsAreOne }
+{}
+
+/// What a program prints, how it ends, what it calls and its cost are told by the contents of its files.
+pub fn contents_decide()
+    ensures { ContentsDecide }
+{}
