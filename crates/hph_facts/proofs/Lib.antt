@@ -1,0 +1,14 @@
+pub mod KnownExpressions
+pub mod KnownStatements
+pub mod KnownPrograms
+pub mod Vocabulary
+pub mod Overflow
+pub mod Division
+pub mod Copies
+pub mod NextKeys
+pub mod References
+pub mod ConditionalFunctions
+pub mod Includes
+pub mod Recursion
+pub mod LateStaticBinding
+pub mod WholePrograms
