@@ -1,6 +1,6 @@
 -- Whole programs with functions: their code, what they print, how they end, which functions they call, and the bound on reductions.
 -- PHP 8.2 prints the same.
-use Rattle.std.proofs.Common.{◌≡◌, ◌∙◌, List, [], ◌∷◌, refl, codes, false, None, Some, String, Global, pos}
+use Rattle.std.proofs.Common.{◌≡◌, ◌∙◌, ◌+◌, ℕ, List, [], ◌∷◌, refl, codes, false, None, Some, String, Global, pos}
 use Rattle.std.specs.Fmt.{digits}
 use Rattle.std.specs.String.{string_bytes}
 use denote.Hole.Carrier.{out, roll}
@@ -8,7 +8,8 @@ use Rattle.hph_ast.specs.declared.operator.Binary.TheVariants as b
 use Rattle.hph_ast.specs.declared.stmt.Statement.{Statement, roll-Statement, out-Statement}
 use Rattle.hph_ast.specs.declared.function.Function.{Function}
 use Rattle.hph_ast.specs.declared.program.Program.{Program}
-use Rattle.hph_php.specs.Answers.{Means, Done, Exit, give, bind}
+use Rattle.hph_php.specs.declared.fatal.Fatal.TheVariants.{Overflow}
+use Rattle.hph_php.specs.Answers.{Means, Done, Exit, FatalError, give, bind}
 use Rattle.hph_php.specs.Codes.{all_builtins}
 use Rattle.hph_php.specs.Cost.{nodes, statement_nodes, program_nodes, cost}
 use Rattle.hph_php.specs.Declarations.{Codes, Declaration, declarations_in, codes_of, all_declarations, placed_at, site_at, a_body}
@@ -146,7 +147,7 @@ module _ (path : String Global) where
   unfolding out-Statement roll-Statement out roll digits
   counts_to_1 = php_is counts counts_codes counts_meanings 3 ∙ refl
 
-  -- ---- `<?php function fact($n){ if ($n < 2) { return 1; } return $n * fact($n - 1); } echo fact(3);`
+  -- ---- `<?php function fact($n){ if ($n < 2) { return 1; } return $n * fact($n - 1); } echo fact(3);` and its kin
 
   abbrev fact_body : List Statement
   fact_body =
@@ -158,11 +159,12 @@ module _ (path : String Global) where
   abbrev fact : Function
   fact = function 6 78 15 (codes "fact") (param 20 (codes "n") ∷ []) fact_body
 
-  abbrev fact_statements : List Statement
-  fact_statements = declared fact ∷ echo 79 92 (call 84 91 (codes "fact") (int 89 90 3 ∷ []) ∷ []) ∷ []
+  -- `echo fact(3);` for 3 and other numbers, with so many digits
+  abbrev fact_statements : ℕ → ℕ → List Statement
+  fact_statements n d = declared fact ∷ echo 79 (91 + d) (call 84 (90 + d) (codes "fact") (int 89 (89 + d) n ∷ []) ∷ []) ∷ []
 
-  abbrev factorial : Program
-  factorial = record { files = file path 6 92 fact_statements ∷ [] }
+  abbrev factorial : ℕ → ℕ → Program
+  factorial n d = record { files = file path 6 (91 + d) (fact_statements n d) ∷ [] }
 
   abbrev fact_means : World → Context → List (Means Way)
   fact_means w c =
@@ -179,47 +181,58 @@ module _ (path : String Global) where
       (call_is w c 63 75 (codes "fact") (and_read w c (two_is w c 68 74 b.Sub (variable_is w c 68 (codes "n")) (int_is w c 73 74 1)) (none_read w c)))))
       (none_done w c))
 
-  abbrev factorial_means : World → Context → List (Means Way)
-  factorial_means w c = means.declares w c (codes "fact") 6
-      ∷ means.echoes w c (means.call w c (codes "fact") (means.int w c 3 ∷ []) ∷ []) ∷ []
+  abbrev factorial_means : ℕ → World → Context → List (Means Way)
+  factorial_means n w c = means.declares w c (codes "fact") 6
+      ∷ means.echoes w c (means.call w c (codes "fact") (means.int w c n ∷ []) ∷ []) ∷ []
 
-  factorial_is : (w : World) (c : Context) → AllDone w c fact_statements (factorial_means w c)
-  factorial_is w c = and_done w c (declares_is w c 6 78 15 (codes "fact") (param 20 (codes "n") ∷ []) fact_body)
-      (and_done w c (echo_is w c 79 92 (call_is w c 84 91 (codes "fact") (and_read w c (int_is w c 89 90 3) (none_read w c)))) (none_done w c))
+  factorial_is : (n d : ℕ) (w : World) (c : Context) → AllDone w c (fact_statements n d) (factorial_means n w c)
+  factorial_is n d w c = and_done w c (declares_is w c 6 78 15 (codes "fact") (param 20 (codes "n") ∷ []) fact_body)
+      (and_done w c (echo_is w c 79 (91 + d) (call_is w c 84 (90 + d) (codes "fact") (and_read w c (int_is w c 89 (89 + d) n) (none_read w c))))
+      (none_done w c))
 
   abbrev fact_code : Codes
   fact_code = code_of (placed_at 0 6 (a_body fact None false) ∷ [])
 
   -- its code is the body of the function at offset 6
-  factorial_codes : codes_of factorial ≡ fact_code
+  factorial_codes : (n d : ℕ) → codes_of (factorial n d) ≡ fact_code
   unfolding declarations_in
-  factorial_codes = simp trees
+  factorial_codes n d = simp trees
 
-  factorial_declares : all_declarations factorial ≡ (0, declaration.a_function fact) ∷ []
+  factorial_declares : (n d : ℕ) → all_declarations (factorial n d) ≡ (0, declaration.a_function fact) ∷ []
   unfolding declarations_in
-  factorial_declares = simp trees
+  factorial_declares n d = simp trees
 
-  factorial_meanings : meanings_of factorial.files fact_code ≡ one_file fact_statements factorial_means (body_routine fact fact_means ∷ [])
+  factorial_meanings : (n d : ℕ) →
+      meanings_of (factorial n d).files fact_code ≡ one_file (fact_statements n d) (factorial_means n) (body_routine fact fact_means ∷ [])
   unfolding out roll
-  factorial_meanings = λ i. one_file fact_statements (λ w c. (factorial_is w c).is i) (body_routine fact (λ w c. (fact_is w c).is i) ∷ [])
+  factorial_meanings n d = λ i.
+      one_file (fact_statements n d) (λ w c. (factorial_is n d w c).is i) (body_routine fact (λ w c. (fact_is w c).is i) ∷ [])
 
   -- a unit for the file, and one for each of three calls
-  factorial_prints : php factorial 4 ≡ record { out = codes "6"; end = Some Done }
+  factorial_prints : php (factorial 3 1) 4 ≡ record { out = codes "6"; end = Some Done }
   unfolding out-Statement roll-Statement out roll digits all_builtins
-  factorial_prints = php_is factorial factorial_codes factorial_meanings 4 ∙ refl
+  factorial_prints = php_is (factorial 3 1) (factorial_codes 3 1) (factorial_meanings 3 1) 4 ∙ refl
+
+  factorial_of_20 : php (factorial 20 2) 21 ≡ record { out = codes "2432902008176640000"; end = Some Done }
+  unfolding out-Statement roll-Statement out roll digits all_builtins
+  factorial_of_20 = php_is (factorial 20 2) (factorial_codes 20 2) (factorial_meanings 20 2) 21 ∙ refl
+
+  factorial_of_21 : php (factorial 21 2) 22 ≡ record { out = []; end = Some (FatalError Overflow) }
+  unfolding out-Statement roll-Statement out roll digits all_builtins
+  factorial_of_21 = php_is (factorial 21 2) (factorial_codes 21 2) (factorial_meanings 21 2) 22 ∙ refl
 
   -- the function is scope 1
-  factorial_calls : calls factorial 4 ≡ 1 ∷ 1 ∷ 1 ∷ []
+  factorial_calls : calls (factorial 3 1) 4 ≡ 1 ∷ 1 ∷ 1 ∷ []
   unfolding out-Statement roll-Statement out roll digits all_builtins
-  factorial_calls = calls_are factorial factorial_codes factorial_declares factorial_meanings 4 ∙ refl
+  factorial_calls = calls_are (factorial 3 1) (factorial_codes 3 1) (factorial_declares 3 1) (factorial_meanings 3 1) 4 ∙ refl
 
   -- with a unit less the last call isn't made
-  factorial_calls_fewer : calls factorial 3 ≡ 1 ∷ 1 ∷ []
+  factorial_calls_fewer : calls (factorial 3 1) 3 ≡ 1 ∷ 1 ∷ []
   unfolding out-Statement roll-Statement out roll digits all_builtins
-  factorial_calls_fewer = calls_are factorial factorial_codes factorial_declares factorial_meanings 3 ∙ refl
+  factorial_calls_fewer = calls_are (factorial 3 1) (factorial_codes 3 1) (factorial_declares 3 1) (factorial_meanings 3 1) 3 ∙ refl
 
   -- 4096 * 5 * 21 ^ 2, as the program has 20 nodes
-  factorial_cost : cost factorial 4 ≡ 9031680
+  factorial_cost : cost (factorial 3 1) 4 ≡ 9031680
   unfolding nodes statement_nodes
   factorial_cost = simp trees
 

@@ -10,7 +10,7 @@ use Rattle.hph_ast.specs.declared.expr.ClassReference.TheOpen.{Expr-F}
 use Rattle.hph_ast.specs.declared.function.Function.{Function}
 use Rattle.hph_ast.specs.declared.program.File.{File}
 use Rattle.hph_ast.specs.declared.program.Program.{Program}
-use Rattle.hph_ast.specs.RefusedExpressions.{part}
+use Rattle.hph_ast.specs.RefusedExpressions.{a_text, a_directory_path, part}
 use Rattle.hph_ast.specs.declared.stmt.Statement.{Statement, roll-Statement, out-Statement}
 use Rattle.hph_php.specs.Answers.{Means, Done, bind, give}
 use Rattle.hph_php.specs.Codes.{all_builtins}
@@ -23,7 +23,7 @@ use Rattle.hph_php.specs.Statements.{Way, block}
 use Rattle.hph_php.specs.Files.{entering}
 use Rattle.hph_php.specs.Run.{Meanings, a_function, meanings_of, parameters, in_body, result_of, php, calls}
 use Rattle.hph_php.proofs.Levels.{reading_rolled}
-use Rattle.hph_program.specs.Sources.{includes_in, included}
+use Rattle.hph_program.specs.Sources.{path_named, includes_in, included}
 use Rattle.hph_program.specs.Program.{new_paths, next_wave}
 use Rattle.hph_program.proofs.Runs.{Reads, AllDone, php_is, calls_are, int_is, text_is, call_is, none_read, echo_is, does_is, returns_is, declares_is, none_done, and_done}
 use Rattle.hph_program.proofs.Runs as means
@@ -135,6 +135,18 @@ module _ (m_path b_path : String Global) (m_is : string_bytes m_path ≡ codes "
   two_files_call : calls two_files 3 ≡ 1 ∷ []
   unfolding out-Statement roll-Statement out roll digits all_builtins
   two_files_call = calls_are two_files two_files_codes two_files_declare two_files_meanings 3 ∙ refl
+
+-- ---- paths
+
+-- in lib/named.php `__DIR__ . '/stack.php'`, and in main.php `'lib/named.php'`
+path_behind_directory : path_named (codes "lib") (a_directory_path (codes "/stack.php")) ≡ Some (codes "lib/stack.php")
+path_behind_directory = refl
+
+path_in_a_folder : path_named (codes ".") (a_text (codes "lib/named.php")) ≡ Some (codes "lib/named.php")
+path_in_a_folder = refl
+
+path_from_the_root : path_named (codes "lib") (a_text (codes "/a/../b.php")) ≡ Some (codes "/b.php")
+path_from_the_root = refl
 
 -- ---- waves
 

@@ -6,3 +6,5 @@ pub mod IncludeExamples
 pub mod ProgramExamples
 pub mod OneProgram
 pub mod Contents
+pub mod SourceExamples
+pub mod Faultless

@@ -39,23 +39,23 @@ use Rattle.hph_program.proofs.Trees.{from_to, int, run_of_two, echo, file}
 
 -- ---- one level of numbering
 
-unfoldable class_reference : ClassReference → Numbered ClassReference
+unfoldable pub class_reference : ClassReference → Numbered ClassReference
 class_reference = fold-ClassReference (Numbered ClassReference) (Numbered Expr) (Numbered Item) (Numbered MemberName) (Numbered Step) (Numbered StringPart)
     sites.class_by sites.expression_by sites.item_by sites.member_name_by sites.step_by sites.part_by
 
-unfoldable member_name : MemberName → Numbered MemberName
+unfoldable pub member_name : MemberName → Numbered MemberName
 member_name = fold-MemberName (Numbered ClassReference) (Numbered Expr) (Numbered Item) (Numbered MemberName) (Numbered Step) (Numbered StringPart)
     sites.class_by sites.expression_by sites.item_by sites.member_name_by sites.step_by sites.part_by
 
-unfoldable step : Step → Numbered Step
+unfoldable pub step : Step → Numbered Step
 step = fold-Step (Numbered ClassReference) (Numbered Expr) (Numbered Item) (Numbered MemberName) (Numbered Step) (Numbered StringPart)
     sites.class_by sites.expression_by sites.item_by sites.member_name_by sites.step_by sites.part_by
 
-unfoldable part : StringPart → Numbered StringPart
+unfoldable pub part : StringPart → Numbered StringPart
 part = fold-StringPart (Numbered ClassReference) (Numbered Expr) (Numbered Item) (Numbered MemberName) (Numbered Step) (Numbered StringPart)
     sites.class_by sites.expression_by sites.item_by sites.member_name_by sites.step_by sites.part_by
 
-expression_rolled : (d : ExprLayer) (n : ℕ) → sites.expression (roll-Expr d) n ≡ sites.expression_by
+pub expression_rolled : (d : ExprLayer) (n : ℕ) → sites.expression (roll-Expr d) n ≡ sites.expression_by
     (map-Expr ClassReference Expr Item MemberName Step StringPart
     (Numbered ClassReference) (Numbered Expr) (Numbered Item) (Numbered MemberName) (Numbered Step) (Numbered StringPart)
     class_reference sites.expression sites.item member_name step part d) n
@@ -64,27 +64,27 @@ expression_rolled d n = λ i. fold-roll-Expr
     (Numbered ClassReference) (Numbered Expr) (Numbered Item) (Numbered MemberName) (Numbered Step) (Numbered StringPart)
     sites.class_by sites.expression_by sites.item_by sites.member_name_by sites.step_by sites.part_by d i n
 
-unfoldable member : Member → Numbered Member
+unfoldable pub member : Member → Numbered Member
 member = fold-Member (Numbered Member) (Numbered Statement) (Numbered Class) (Numbered Function) (Numbered Case) (Numbered ElseIf)
     sites.member_by sites.statement_by sites.class_declaration_by sites.function_by sites.case_by sites.else_if_by
 
-unfoldable class : Class → Numbered Class
+unfoldable pub class : Class → Numbered Class
 class = fold-Class (Numbered Member) (Numbered Statement) (Numbered Class) (Numbered Function) (Numbered Case) (Numbered ElseIf)
     sites.member_by sites.statement_by sites.class_declaration_by sites.function_by sites.case_by sites.else_if_by
 
-unfoldable function : Function → Numbered Function
+unfoldable pub function : Function → Numbered Function
 function = fold-Function (Numbered Member) (Numbered Statement) (Numbered Class) (Numbered Function) (Numbered Case) (Numbered ElseIf)
     sites.member_by sites.statement_by sites.class_declaration_by sites.function_by sites.case_by sites.else_if_by
 
-unfoldable case : Case → Numbered Case
+unfoldable pub case : Case → Numbered Case
 case = fold-Case (Numbered Member) (Numbered Statement) (Numbered Class) (Numbered Function) (Numbered Case) (Numbered ElseIf)
     sites.member_by sites.statement_by sites.class_declaration_by sites.function_by sites.case_by sites.else_if_by
 
-unfoldable else_if : ElseIf → Numbered ElseIf
+unfoldable pub else_if : ElseIf → Numbered ElseIf
 else_if = fold-ElseIf (Numbered Member) (Numbered Statement) (Numbered Class) (Numbered Function) (Numbered Case) (Numbered ElseIf)
     sites.member_by sites.statement_by sites.class_declaration_by sites.function_by sites.case_by sites.else_if_by
 
-statement_rolled : (d : Statement-F Member Statement Class Function Case ElseIf) (n : ℕ) → sites.statement (roll-Statement d) n ≡ sites.statement_by
+pub statement_rolled : (d : Statement-F Member Statement Class Function Case ElseIf) (n : ℕ) → sites.statement (roll-Statement d) n ≡ sites.statement_by
     (map-Statement Member Statement Class Function Case ElseIf
     (Numbered Member) (Numbered Statement) (Numbered Class) (Numbered Function) (Numbered Case) (Numbered ElseIf)
     member sites.statement class function case else_if d) n
@@ -95,7 +95,7 @@ statement_rolled d n = λ i. fold-roll-Statement
 
 -- ---- sites: those of `<?php echo 1+2;` are the file, the statement, the sum and its numbers
 
-abbrev at_site : ℕ → ℕ → ℕ → At
+abbrev pub at_site : ℕ → ℕ → ℕ → At
 at_site start end n = record { start = start; end = end; site = n }
 
 abbrev sum_tree : FileTree

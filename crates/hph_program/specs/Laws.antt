@@ -1,14 +1,18 @@
 -- What the definition of programs is worth.
-use Rattle.std.specs.Prelude.{◌≡◌, ℕ, List, map}
-use Rattle.hph_src.specs.Files.{Files}
+use Rattle.std.specs.Prelude.{◌≡◌, ℕ, List, map, Some, None, String}
+use Rattle.std.specs.String.{string_bytes}
+use Rattle.std.specs.declared.alloc.Global.{Global}
+use Rattle.hph_src.specs.Files.{Files, file_at}
 use Rattle.hph_ast.specs.declared.token.Token.{Token}
+use Rattle.hph_ast.specs.declared.program.File.{File}
 use Rattle.hph_ast.specs.declared.program.FileTree.{FileTree}
 use Rattle.hph_ast.specs.declared.program.Program.{Program}
 use Rattle.hph_ast.specs.Tokens.{SpellsTokens}
 use Rattle.hph_ast.specs.StatementNesting.{SpellsTree}
+use Rattle.hph_ast.specs.Faults.{FirstFault}
 use Rattle.hph_php.specs.Cost.{cost}
 use Rattle.hph_php.specs.Run.{php, calls}
-use Rattle.hph_program.specs.Sources.{content}
+use Rattle.hph_program.specs.Sources.{content, IsSource}
 use Rattle.hph_program.specs.Program.{IsProgramOf}
 
 -- bytes spell at most one list of tokens, and tokens at most one tree
@@ -17,6 +21,15 @@ TokensAreOne = (bytes : List ℕ) (ts us : List Token) → SpellsTokens bytes ts
 
 abbrev pub TreesAreOne : Type 0
 TreesAreOne = (tokens : List Token) (x y : FileTree) → SpellsTree tokens x → SpellsTree tokens y → x ≡ y
+
+-- a file of a program has no fault, and a file without a fault can be one of a program
+abbrev pub SourcesHaveNoFault : Type 0
+SourcesHaveNoFault = (files : Files) (path : List ℕ) (f : File) → IsSource files path f → FirstFault f.bytes None
+
+abbrev pub FaultlessFilesAreSources : Type 0
+FaultlessFilesAreSources = (files : Files) (path : String Global) (bytes : List ℕ) →
+    file_at files (string_bytes path) ≡ Some bytes → FirstFault bytes None →
+    (f : File) × (f.path ≡ path) × (f.bytes ≡ bytes) × IsSource files (string_bytes path) f
 
 -- from a main file on a source tree has one program, but for how the texts of paths are kept
 abbrev pub ProgramsAreOne : Type 0

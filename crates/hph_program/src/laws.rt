@@ -1,6 +1,12 @@
 //! Laws of programs: contracts of functions that do nothing.
 
-ghost use Rattle.hph_program.specs.Laws.{TokensAreOne, TreesAreOne, ProgramsAreOne, ContentsDecide};
+ghost use Rattle.hph_program.specs.Laws.{TokensAreOne, TreesAreOne, ProgramsAreOne, ContentsDecide, SourcesHaveNoFault, FaultlessFilesAreSources};
+
+/// A file of a program has no fault, and each file without a fault can be one of a program.
+pub fn sources_have_no_fault()
+    ensures none { SourcesHaveNoFault }
+    ensures source { FaultlessFilesAreSources }
+{}
 
 /// From a main file on a source tree has at most one program, where bytes spell at most one list of tokens and tokens at most
 /// one tree. How much room the texts of its paths have is left open.
