@@ -150,7 +150,7 @@ if_taken : (s : Stack) (results : List ValType) (o : Option Stack) → pop I32 s
 if_taken s results None e = subst (λ o. Told (Takes (I32 ∷ []) results) s (if_some (if_some o None (pops [])) None (λ s. Some (push_all results s)))) e (obeyed_told (Some (From (I32 ∷ []) results)) s)
 if_taken s results (Some s') e = subst (λ o. Told (Takes (I32 ∷ []) results) s (if_some (if_some o None (pops [])) None (λ s. Some (push_all results s)))) e (obeyed_told (Some (From (I32 ∷ []) results)) s)
 
--- some stack of these with an I32 on top
+-- some stack of these has a condition on top
 an_if : (s s' : Stack) (results : List ValType) → Strongest (Takes (I32 ∷ []) results) s (push_all results s') → (from : List ValType) × Holds s from × Ends (I32 ∷ []) from
 an_if s s' results t = let all = push_all results s' in let q = some_stack all.kinds all.free in let p = t.1 q.0 q.1 in (p.0, p.1, (p.2.0, p.2.1))
 

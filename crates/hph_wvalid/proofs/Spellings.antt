@@ -1,6 +1,7 @@
 -- A module has fewer functions, and each body fewer opcodes, than its spelling has bytes.
-use Rattle.std.proofs.Common.{◌≡◌, ◌≤◌, ◌<◌, ℕ, zero, suc, ◌+◌, List, [], ◌∷◌, ◌++◌, map, length, length-append, Some, subst, arith}
+use Rattle.std.proofs.Common.{◌≡◌, ◌≤◌, ◌<◌, ◌^◌, ℕ, zero, suc, ◌+◌, List, [], ◌∷◌, ◌++◌, map, length, length-append, Some, refl, subst, arith}
 use Rattle.std.specs.Prelude.{flat_map, slice_get}
+use Rattle.std.specs.List.{AllByRecursion}
 use Rattle.std.proofs.lemmas.List.{length-map}
 use Rattle.hph_wasm.specs.declared.instr.Instr.{Instr, Unreachable, Nop, Block', Loop', If', Br, BrIf, BrTable, Return, Call, CallIndirect, Drop, Select, LocalGet, LocalSet, LocalTee, GlobalGet, GlobalSet, Load, LoadNarrow, StoreNarrow, I32Const, I64Const, Eqz, Compare, Unary, Binary, Wrap, Extend, Row_of-Instr, end_of-Instr, more_of-Instr, Held-Instr-If-2, None', Some'}
 use Rattle.hph_wasm.specs.declared.instr.Instr as instr
@@ -133,7 +134,7 @@ sections_short m =
     behind header _ _ types
 
 -- Functions, with those that are imported, are fewer than bytes.
-pub functions_short : (m : Module) → length (imported_functions m.imports) + length m.funcs ≤ length (spelling m)
+functions_short : (m : Module) → length (imported_functions m.imports) + length m.funcs ≤ length (spelling m)
 functions_short m =
     let fewer = imported_fewer m.imports in
     let imports = one_each import_bytes import_short m.imports in
@@ -144,7 +145,7 @@ functions_short m =
     omega (arith, fewer, imports, codes, in_imports, in_codes, whole)
 
 -- So are the opcodes of each body.
-pub body_short : (m : Module) (n : ℕ) (func : Func) → slice_get m.funcs n ≡ Some func → list_size func.body < length (spelling m)
+body_short : (m : Module) (n : ℕ) (func : Func) → slice_get m.funcs n ≡ Some func → list_size func.body < length (spelling m)
 body_short m n func there =
     let one = code_short func in
     let part = part_short code_bytes m.funcs n func there in
@@ -152,10 +153,33 @@ body_short m n func there =
     let whole = sections_short m in
     omega (arith, one, part, in_codes, whole)
 
--- The number of all functions.
-pub functions_counted : (m : Module) → length (map type_number (functions m)) ≡ length (imported_functions m.imports) + length m.funcs
-functions_counted m =
-    let mapped = length-map (functions m) type_number in
+-- What holds of each element by its place holds of all, and the other way round.
+all_placed : {X : Type 0} (P : X → Type 0) (xs : List X) → ((n : ℕ) (x : X) → slice_get xs n ≡ Some x → P x) → AllByRecursion P xs
+all_placed P [] h = tt
+all_placed P (x ∷ xs) h = (h 0 x refl, all_placed P xs (λ n y there. h (suc n) y there))
+
+pub placed_all : {X : Type 0} (P : X → Type 0) (xs : List X) (n : ℕ) (x : X) → AllByRecursion P xs → slice_get xs n ≡ Some x → P x
+placed_all P [] n x h there = let no : ⊥ = cc in absurd no
+placed_all P (y ∷ xs) zero x h there = let same : y ≡ x = cc in subst P same h.0
+placed_all P (y ∷ xs) (suc n) x h there = placed_all P xs n x h.1 there
+
+-- In a module with a short spelling all functions and opcodes have numbers below 2^32.
+pub bodies_short : (m : Module) → length (spelling m) < 2 ^ 32 → AllByRecursion (λ func. list_size func.body < 2 ^ 32) m.funcs
+bodies_short m short = all_placed (λ (func : Func). list_size func.body < 2 ^ 32) m.funcs (λ n func there.
+    let one = body_short m n func there in omega (arith, one, short))
+
+functions_added : (m : Module) → length (functions m) ≡ length (imported_functions m.imports) + length m.funcs
+functions_added m =
     let both = length-append (imported_functions m.imports) (map Defined m.funcs) in
     let own = length-map m.funcs Defined in
-    omega (arith, mapped, both, own)
+    omega (arith, both, own)
+
+pub functions_fewer : (m : Module) → length (functions m) ≤ length m.imports + length m.funcs
+functions_fewer m = let both = functions_added m in let fewer = imported_fewer m.imports in omega (arith, both, fewer)
+
+pub functions_few : (m : Module) → length (spelling m) < 2 ^ 32 → length (functions m) < 2 ^ 32
+functions_few m short = let both = functions_added m in let fewer = functions_short m in omega (arith, both, fewer, short)
+
+-- The number of all functions.
+pub functions_counted : (m : Module) → (length (map type_number (functions m)) ≡ length (functions m)) × (length (functions m) ≡ length (imported_functions m.imports) + length m.funcs)
+functions_counted m = (length-map (functions m) type_number, functions_added m)

@@ -1,9 +1,8 @@
 //! Functions in their order (Core Specification 1.0, 3.4.1).
 ghost use Rattle.std.specs.Prelude.{◌≡◌, ◌+◌, ◌<◌, ◌^◌, length, IfOk, MatchOption};
 ghost use Rattle.std.specs.List.{AllByRecursion};
-ghost use Rattle.hph_wasm.specs.Functions.{imported_functions};
+ghost use Rattle.hph_wasm.specs.Functions.{functions};
 ghost use Rattle.hph_wasm.specs.Rows.{list_size};
-ghost use Rattle.hph_wasm.specs.Spelling.{spelling};
 ghost use Rattle.hph_wasm.specs.Validity.{IsFunc};
 ghost use Rattle.hph_wasm.specs.ModuleValidity.{IsValidOutside};
 ghost use Rattle.hph_wasm.specs.Faults.{IsFirstInvalid};
@@ -32,7 +31,7 @@ fn function_fault(
 }
 
 /// The first fault inside code: the number of the function, imported ones first, and that of the opcode; none where all is valid.
-#[tactic(auto, using(crate::proofs::Spellings::functions_short, crate::proofs::Spellings::functions_counted, crate::proofs::Spellings::body_short))]
+#[tactic(auto, using(crate::proofs::Spellings::functions_counted))]
 pub fn first_invalid(
     alloc: Global,
     m: &Module,
@@ -40,7 +39,8 @@ pub fn first_invalid(
 ) -> Result<Option<(u32, u32)>, AllocError>
     requires numbered { spaces.now ≡ spaces_of m.now }
     requires outside { IsValidOutside m.now }
-    requires short { length (spelling m.now) < 2 ^ 32 }
+    requires few { length (functions m.now) < 2 ^ 32 }
+    requires short { AllByRecursion (λ func. list_size func.body < 2 ^ 32) m.now.funcs }
     ensures { IfOk result (λ fault. MatchOption fault (AllByRecursion (IsFunc m.now) m.now.funcs) (λ place. IsFirstInvalid m.now place.0 place.1)) }
 {
     let funcs = m.funcs.as_slice();

@@ -12,6 +12,8 @@ mod scope;
 mod signature;
 mod spaces;
 mod stack;
+#[cfg(test)]
+mod tests;
 mod validator;
 
 pub use validator::{ValidFault, valid};

@@ -1,5 +1,8 @@
 //! Modules (Core Specification 1.0, 3.4.10).
 ghost use Rattle.std.specs.Prelude.{◌≡◌, ℕ, ◌<◌, ◌^◌, length, ◌↔◌, IsTrue, IfOk, IfErr, OnOk, MatchResult};
+ghost use Rattle.std.specs.List.{AllByRecursion};
+ghost use Rattle.hph_wasm.specs.Functions.{functions};
+ghost use Rattle.hph_wasm.specs.Rows.{list_size};
 ghost use Rattle.hph_wasm.specs.Spelling.{spelling};
 ghost use Rattle.hph_wasm.specs.ModuleValidity.{IsValidOutside, IsValid};
 ghost use Rattle.hph_wasm.specs.Faults.{IsFirstInvalid};
@@ -43,9 +46,10 @@ fn is_valid_outside(m: &Module, spaces: &Spaces) -> bool
     has_types(m, spaces) && has_contents(m, spaces)
 }
 
-/// Whether the module is valid; if not, its first fault.
-fn decide(alloc: Global, m: &Module) -> Result<(), ValidFault>
-    requires short { length (spelling m.now) < 2 ^ 32 }
+/// Whether the module is valid; if not, its first fault. Functions and the opcodes of each body are to be few enough for a place.
+pub(crate) fn decide(alloc: Global, m: &Module) -> Result<(), ValidFault>
+    requires few { length (functions m.now) < 2 ^ 32 }
+    requires short { AllByRecursion (λ func. list_size func.body < 2 ^ 32) m.now.funcs }
     ensures valid { OnOk result (IsValid m.now) }
     ensures invalid { IfErr result (IsFaultIn m.now) }
 {
@@ -61,6 +65,7 @@ fn decide(alloc: Global, m: &Module) -> Result<(), ValidFault>
 }
 
 /// The module, if it is valid (3.4.10); else the place of its first fault. The module's spelling is to have fewer than 2^32 bytes.
+#[tactic(auto, using(crate::proofs::Spellings::functions_few, crate::proofs::Spellings::bodies_short))]
 pub fn valid(alloc: Global, m: Module) -> Result<Checked, ValidFault>
     requires short { length (spelling m) < 2 ^ 32 }
     ensures same { IfOk result (λ checked. checked.«module» ≡ m) }
