@@ -8,3 +8,4 @@ pub mod OneProgram
 pub mod Contents
 pub mod SourceExamples
 pub mod Faultless
+pub mod Closed

@@ -1,5 +1,5 @@
 -- What the definition of programs is worth.
-use Rattle.std.specs.Prelude.{◌≡◌, ℕ, List, map, Some, None, String}
+use Rattle.std.specs.Prelude.{◌≡◌, ℕ, List, [], ◌∷◌, map, Some, None, String}
 use Rattle.std.specs.String.{string_bytes}
 use Rattle.std.specs.declared.alloc.Global.{Global}
 use Rattle.hph_src.specs.Files.{Files, file_at}
@@ -11,9 +11,11 @@ use Rattle.hph_ast.specs.Tokens.{SpellsTokens}
 use Rattle.hph_ast.specs.StatementNesting.{SpellsTree}
 use Rattle.hph_ast.specs.Faults.{FirstFault}
 use Rattle.hph_php.specs.Cost.{cost}
+use Rattle.hph_php.specs.Includes.{normalised}
 use Rattle.hph_php.specs.Run.{php, calls}
 use Rattle.hph_program.specs.Sources.{content, IsSource}
-use Rattle.hph_program.specs.Program.{IsProgramOf}
+use Rattle.hph_program.specs.Program.{Waves, IsProgramOf}
+use Rattle.hph_program.specs.WellFormed.{IncludeEachOther}
 
 -- bytes spell at most one list of tokens, and tokens at most one tree
 abbrev pub TokensAreOne : Type 0
@@ -45,3 +47,7 @@ pub record DoTheSame (p q : Program) (units : ℕ) : Type 0 where
 -- what a program does is told by the contents of its files
 abbrev pub ContentsDecide : Type 0
 ContentsDecide = (p q : Program) → map content p.files ≡ map content q.files → (units : ℕ) → DoTheSame p q units
+
+-- the files of all waves from a main file on include no other files
+abbrev pub WavesAreClosed : Type 0
+WavesAreClosed = (files : Files) (main : List ℕ) (all : List File) → Waves files [] (normalised main ∷ []) all → IncludeEachOther all

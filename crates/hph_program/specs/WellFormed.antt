@@ -1,7 +1,7 @@
 -- When a program is well-formed: what the passes behind the front end may take for granted of it, and nothing else. The trees come
 -- from some tokens, which needn't be those of the files, so that a program may be changed and stay well-formed. This project's own.
-use Rattle.std.specs.Prelude.{◌≡◌, ◌≤◌, ℕ, List, length, map, All, Contains, sum_by, None}
-use Rattle.std.specs.List.{AllZip}
+use Rattle.std.specs.Prelude.{◌≡◌, ◌≤◌, ℕ, true, List, length, map, flat_map, sum_by, None, bytes_eq}
+use Rattle.std.specs.List.{AllZip, list_any}
 use Rattle.hph_ast.specs.declared.token.Token.{Token}
 use Rattle.hph_ast.specs.declared.token.Kind.{Kind}
 use Rattle.hph_ast.specs.declared.token.Kind.TheVariants as k
@@ -44,9 +44,9 @@ pub record IsSpelled (tokens : List Token) (tree : FileTree) : Type 0 where
 
 -- ---- includes
 
--- each file that a file includes is one of the program
-abbrev pub IncludesItsFiles : Program → Type 0
-IncludesItsFiles p = All (λ (f : File). All (Contains (map path_of p.files)) (included f)) p.files
+-- each path that a file includes is that of one of these files
+abbrev pub IncludeEachOther : List File → Type 0
+IncludeEachOther fs = (path : List ℕ) → list_any (bytes_eq path) (flat_map included fs) ≡ true → list_any (bytes_eq path) (map path_of fs) ≡ true
 
 -- ---- programs
 
@@ -59,5 +59,5 @@ pub record IsWellFormed (p : Program) : Type 0 where
   pub few_tokens : sum_by (λ (ts : List Token). length ts) tokens ≤ tokens_limit
   pub few_bytes : sum_by (λ ts. sum_by (λ (t : Token). held_bytes t.kind) ts) tokens ≤ token_bytes_limit
   pub numbered : map (λ (f : File). f.tree) p.files ≡ numbered_trees trees
-  pub includes : IncludesItsFiles p
+  pub includes : IncludeEachOther p.files
   pub names : AgreesOnNames p

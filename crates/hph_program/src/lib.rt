@@ -7,4 +7,4 @@
 
 mod laws;
 
-pub use laws::{contents_decide, one_program, sources_have_no_fault};
+pub use laws::{contents_decide, one_program, sources_have_no_fault, waves_are_closed};
