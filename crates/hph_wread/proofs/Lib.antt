@@ -1,0 +1,13 @@
+pub mod Combinators
+pub mod Heads
+pub mod Vectors
+pub mod Tagged
+pub mod FunctionTypes
+pub mod SpelledNames
+pub mod SizeLimits
+pub mod SharedThings
+pub mod InstructionParts
+pub mod PlainInstructions
+pub mod BlockStops
+pub mod SequenceFaults
+pub mod NestReading
