@@ -9,3 +9,4 @@ pub mod Contents
 pub mod SourceExamples
 pub mod Faultless
 pub mod Closed
+pub mod NamesExamples

@@ -13,7 +13,7 @@ use Rattle.hph_ast.specs.declared.expr.Step.{out-roll-Step}
 use Rattle.hph_ast.specs.declared.expr.MemberName.{MemberName, roll-MemberName, out-roll-MemberName}
 use Rattle.hph_ast.specs.declared.expr.ClassReference.{ClassReference, roll-ClassReference, out-roll-ClassReference}
 use Rattle.hph_ast.specs.declared.expr.ClassReference.TheOpen.{Expr-F}
-use Rattle.hph_ast.specs.declared.expr.ClassReference.TheFolds.{fold-roll-ClassReference, fold-roll-Expr, fold-roll-Item, fold-roll-MemberName, fold-roll-Step, fold-roll-StringPart, para-roll-Expr}
+use Rattle.hph_ast.specs.declared.expr.ClassReference.TheFolds.{fold-roll-ClassReference, fold-roll-Expr, fold-roll-Item, fold-roll-MemberName, fold-roll-Step, fold-roll-StringPart, para-roll-ClassReference, para-roll-Expr, para-roll-Item, para-roll-MemberName, para-roll-Step, para-roll-StringPart}
 use Rattle.hph_ast.specs.declared.stmt.Statement.{Statement, roll-Statement, out-roll-Statement}
 use Rattle.hph_ast.specs.declared.stmt.Case.{Case}
 use Rattle.hph_ast.specs.declared.stmt.ElseIf.{ElseIf}
@@ -39,6 +39,12 @@ pub ruleset trees = (
   fold-roll-Function,
   fold-roll-Case,
   fold-roll-ElseIf,
+  para-roll-ClassReference,
+  para-roll-Expr,
+  para-roll-Item,
+  para-roll-MemberName,
+  para-roll-Step,
+  para-roll-StringPart,
   para-roll-Member,
   para-roll-Statement,
   para-roll-Class,
@@ -46,6 +52,7 @@ pub ruleset trees = (
   para-roll-Case,
   para-roll-ElseIf,
   out-roll-Expr,
+  out-roll-MemberName,
   out-roll-Statement,
   out-roll-Class,
   out-roll-Function,
