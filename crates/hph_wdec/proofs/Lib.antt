@@ -1,0 +1,10 @@
+pub mod SizedParts
+pub mod Runs
+pub mod SegmentParts
+pub mod CodeParts
+pub mod Contents
+pub mod NextSection
+pub mod SoFar
+pub mod FaultLaws
+pub mod FunctionLists
+pub mod PrefixBytes

@@ -1,0 +1,108 @@
+//! Rows of the Core Specification 1.0 (5.5) on which bytes are modules, worked out by hand.
+ghost use Rattle.std.specs.Prelude.{◌<◌, ◌^◌, length};
+
+use crate::module_fault::ModuleFault;
+use crate::read;
+use hph_wasm::Feature;
+use std::alloc::Global;
+use std::test::Fail;
+
+/// A module that prints 3: types, an import, a function, a memory, an export, code and data.
+const PRINTS_THREE: [u8; 75] = [
+    0x00, 0x61, 0x73, 0x6D, 0x01, 0x00, 0x00, 0x00, // the header
+    0x01, 0x09, 0x02, 0x60, 0x02, 0x7F, 0x7F, 0x00, 0x60, 0x00, 0x00, // types
+    0x02, 0x0E, 0x01, 0x04, 0x70, 0x68, 0x70, 0x31, 0x05, 0x77, 0x72, 0x69, 0x74, 0x65, 0x00, 0x00, // php1.write
+    0x03, 0x02, 0x01, 0x01, // a function
+    0x05, 0x03, 0x01, 0x00, 0x01, // a memory
+    0x07, 0x08, 0x01, 0x04, 0x6D, 0x61, 0x69, 0x6E, 0x00, 0x01, // main
+    0x0A, 0x0A, 0x01, 0x08, 0x00, 0x41, 0x00, 0x41, 0x01, 0x10, 0x00, 0x0B, // its code
+    0x0B, 0x07, 0x01, 0x00, 0x41, 0x00, 0x0B, 0x01, 0x33, // data
+];
+
+/// Why the header and these bytes behind it were not read.
+fn fault_behind_header(alloc: Global, sections: &[u8]) -> Result<Option<ModuleFault>, Fail>
+    requires { length sections.now < 1000 }
+{
+    let mut bytes = Vec::from_slice(alloc, &PRINTS_THREE[..8])?;
+    bytes.extend_from_slice(sections)?;
+    Ok(fault_of(alloc, &bytes))
+}
+
+/// Why the bytes were not read.
+fn fault_of(alloc: Global, bytes: &[u8]) -> Option<ModuleFault>
+    requires { length bytes.now < 2 ^ 32 }
+{
+    match read(alloc, bytes) {
+        Ok(_) => None,
+        Err(fault) => Some(fault),
+    }
+}
+
+#[test]
+fn whole_sections_are_modules_and_no_other_prefix_is(rt: HostRuntime) {
+    let alloc = rt.alloc();
+    for length in 0..PRINTS_THREE.len() + 1 {
+        let fault = fault_of(alloc, &PRINTS_THREE[..length]);
+        match length {
+            8 | 19 | 35 | 66 | 75 => assert!(rt; fault.is_none(), "at {length}"),
+            _ => assert!(rt;
+                matches!(fault, Some(ModuleFault::Malformed(_))),
+                "at {length}"
+            ),
+        }
+    }
+}
+
+#[test]
+fn a_header_that_is_cut_is_malformed_where_it_ends(rt: HostRuntime) {
+    let alloc = rt.alloc();
+    assert_eq!(rt;
+        fault_of(alloc, &PRINTS_THREE[..5]),
+        Some(ModuleFault::Malformed(5))
+    );
+}
+
+#[test]
+fn a_type_with_a_float_is_unsupported_at_its_byte(rt: HostRuntime) -> Result<(), Fail> {
+    let alloc = rt.alloc();
+    let whole = [0x01, 0x05, 0x01, 0x60, 0x01, 0x7D, 0x00];
+    let float = Some(ModuleFault::Unsupported(13, Feature::F32));
+    assert_eq!(rt; fault_behind_header(alloc, &whole)?, float);
+    // The size is compared where the section ends.
+    assert_eq!(rt;
+        fault_behind_header(alloc, &[0x01, 0x7F, 0x01, 0x60, 0x01, 0x7D])?,
+        float
+    );
+    Ok(())
+}
+
+#[test]
+fn sections_have_an_order(rt: HostRuntime) -> Result<(), Fail> {
+    let alloc = rt.alloc();
+    // A start section is left out where one may stand, and behind code it may not.
+    let start = Some(ModuleFault::Unsupported(8, Feature::Start));
+    assert_eq!(rt; fault_behind_header(alloc, &[0x08, 0x01, 0x00])?, start);
+    let late = fault_behind_header(alloc, &[0x0A, 0x01, 0x00, 0x08, 0x01, 0x00])?;
+    assert!(rt; matches!(late, Some(ModuleFault::Malformed(_))));
+    let twice = fault_behind_header(alloc, &[0x01, 0x01, 0x00, 0x01, 0x01, 0x00])?;
+    assert!(rt; matches!(twice, Some(ModuleFault::Malformed(_))));
+    // A custom section stands anywhere, and its name is text.
+    assert!(rt; fault_behind_header(alloc, &[0x00, 0x02, 0x01, 0x61, 0x01, 0x01, 0x00])?.is_none());
+    let no_text = fault_behind_header(alloc, &[0x00, 0x02, 0x01, 0xFF])?;
+    assert!(rt; matches!(no_text, Some(ModuleFault::Malformed(_))));
+    Ok(())
+}
+
+#[test]
+fn too_many_locals_are_unsupported_at_the_count_that_passes(rt: HostRuntime) -> Result<(), Fail> {
+    let alloc = rt.alloc();
+    let sections = [
+        0x01, 0x04, 0x01, 0x60, 0x00, 0x00, // a type
+        0x03, 0x02, 0x01, 0x00, // a function
+        // 1048576 locals of i32, and one more of i64
+        0x0A, 0x0B, 0x01, 0x09, 0x02, 0x80, 0x80, 0x40, 0x7F, 0x01, 0x7E, 0x0B,
+    ];
+    let fault = Some(ModuleFault::Unsupported(27, Feature::LocalCount));
+    assert_eq!(rt; fault_behind_header(alloc, &sections)?, fault);
+    Ok(())
+}
