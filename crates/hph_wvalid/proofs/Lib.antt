@@ -3,6 +3,7 @@ pub mod Pops
 pub mod Checks
 pub mod Views
 pub mod Branches
+pub mod Fronts
 pub mod Bodies
 pub mod Labels
 pub mod OutsideLaws

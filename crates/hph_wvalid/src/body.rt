@@ -55,13 +55,14 @@ fn check_all(
     ensures told { IfOk result (λ o. Agrees (check_list m.now (context_of scope.old) list.now stack) at.old at.new (list_size list.now) o) }
     ensures same { OnOk result (scope.new ≡ scope.old) }
 {
-    match list {
-        [] => Ok(Some(stack)),
-        [first, rest @ ..] => match check_one(alloc, m, spaces, scope, first, stack, at)? {
-            None => Ok(None),
-            Some(stack) => check_all(alloc, m, spaces, scope, rest, stack, at),
-        },
+    let mut stack = stack;
+    for instr in list {
+        match check_one(alloc, m, spaces, scope, instr, stack, at)? {
+            None => return Ok(None),
+            Some(next) => stack = next,
+        }
     }
+    Ok(Some(stack))
 }
 
 /// The same of one instruction.

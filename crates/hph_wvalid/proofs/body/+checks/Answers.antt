@@ -1,8 +1,11 @@
-use Rattle.std.proofs.Common.{◌≡◌, ◌∙◌, IfOk, arith, ap, sym, None, Some}
+use Rattle.std.proofs.Common.{◌≡◌, ◌∙◌, IfOk, arith, add-one, ap, sym, subst, refl, length, None, Some}
+use Rattle.std.proofs.lemmas.Option.{slice_get_read}
+use Rattle.hph_wasm.specs.Rows.{size}
 use Rattle.hph_wasm.specs.declared.instr.Instr.TheViews.{If}
-use Rattle.hph_wvalid.specs.Checking.{Agrees}
+use Rattle.hph_wvalid.specs.Checking.{Agrees, check}
 use Rattle.hph_wvalid.specs.Spaces.{context_of}
 use Rattle.hph_wvalid.proofs.Views.{moved, block_is, loop_is, alone_is, branches_is, block_size_is, loop_size_is, alone_size_is, branches_size_is}
+use Rattle.hph_wvalid.proofs.Fronts.{part_size, at_front, next_behind, fault_behind, all_behind}
 use Rattle.hph_wvalid.proofs.body.+checks.Goals as goal
 
 pub check_one-check_block-requires : goal.check_one-check_block-requires
@@ -71,3 +74,41 @@ check_one-returns-in-Some-other-clause-told t c =
     (branches_size_is m around c.in-If.ty c.as_slice-in-Some-other.result.now c.in-If.body c.args.stack c.args.instr.now
     c.as_slice-in-Some-other-2.result.now c.in-Some-other.other c.as_slice-in-Some-other.ensures c.as_slice-in-Some-other-2.ensures is)
     c.check_branches.ensures.told
+
+pub check_all-check_one-requires : goal.check_all-check_one-requires
+check_all-check_one-requires t c =
+    let there = slice_get_read c.args.list.now (length c.args.list.now) c.loop-instr.instr-index c.instr-item.result refl (omega arith) c.instr-item.is in
+    let part = part_size c.args.list.now c.loop-instr.instr-index c.instr-item.result there in
+    (omega (arith, part, c.decreases), (c.requires.numbered, omega (arith, part, c.loop-instr.invariant.counted, c.requires.room)))
+
+pub check_all-loop-instr-init : goal.check_all-loop-instr-init
+check_all-loop-instr-init t c =
+    record { behind = at_front c.args.m.now (context_of c.args.scope.now) c.args.list.now c.args.stack; counted = omega arith; same = refl }
+
+pub check_all-loop-instr-preserved : goal.check_all-loop-instr-preserved
+check_all-loop-instr-preserved t c =
+    let m = c.args.m.now in let around = context_of c.args.scope.now in let list = c.args.list.now in
+    let there = slice_get_read list (length list) c.loop-instr.instr-index c.instr-item.result refl (omega arith) c.instr-item.is in
+    let told : Agrees (check m (context_of c.loop-instr.scope) c.instr-item.result c.loop-instr.stack) c.loop-instr.at c.check_one.new.at (size c.instr-item.result) (Some c.in-Some.next) =
+    subst (λ o. Agrees (check m (context_of c.loop-instr.scope) c.instr-item.result c.loop-instr.stack) c.loop-instr.at c.check_one.new.at (size c.instr-item.result) o) c.in-Some.is c.in_ok-check_one.ensures.told in
+    let same : Agrees (check m around c.instr-item.result c.loop-instr.stack) c.loop-instr.at c.check_one.new.at (size c.instr-item.result) (Some c.in-Some.next) =
+    subst (λ s. Agrees (check m (context_of s) c.instr-item.result c.loop-instr.stack) c.loop-instr.at c.check_one.new.at (size c.instr-item.result) (Some c.in-Some.next)) c.loop-instr.invariant.same told in
+    let next = next_behind m around list c.args.stack c.loop-instr.instr-index c.args.at.now c.loop-instr.at c.check_one.new.at c.instr-item.result c.loop-instr.stack c.in-Some.next
+    there c.loop-instr.invariant.behind c.loop-instr.invariant.counted same in
+    rw add-one (record { behind = next.0; counted = next.1; same = c.in_ok-check_one.ensures.same ∙ c.loop-instr.invariant.same })
+
+pub check_all-returns-in-None-clause-told : goal.check_all-returns-in-None-clause-told
+check_all-returns-in-None-clause-told t c =
+    let m = c.args.m.now in let around = context_of c.args.scope.now in let list = c.args.list.now in
+    let there = slice_get_read list (length list) c.loop-instr.instr-index c.instr-item.result refl (omega arith) c.instr-item.is in
+    let told : Agrees (check m (context_of c.loop-instr.scope) c.instr-item.result c.loop-instr.stack) c.loop-instr.at c.check_one.new.at (size c.instr-item.result) None =
+    subst (λ o. Agrees (check m (context_of c.loop-instr.scope) c.instr-item.result c.loop-instr.stack) c.loop-instr.at c.check_one.new.at (size c.instr-item.result) o) c.in-None.is c.in_ok-check_one.ensures.told in
+    let same : Agrees (check m around c.instr-item.result c.loop-instr.stack) c.loop-instr.at c.check_one.new.at (size c.instr-item.result) None =
+    subst (λ s. Agrees (check m (context_of s) c.instr-item.result c.loop-instr.stack) c.loop-instr.at c.check_one.new.at (size c.instr-item.result) None) c.loop-instr.invariant.same told in
+    fault_behind m around list c.args.stack c.loop-instr.instr-index c.args.at.now c.loop-instr.at c.check_one.new.at c.instr-item.result c.loop-instr.stack
+    there c.loop-instr.invariant.behind c.loop-instr.invariant.counted same
+
+pub check_all-returns-clause-told : goal.check_all-returns-clause-told
+check_all-returns-clause-told t c =
+    all_behind c.args.m.now (context_of c.args.scope.now) c.args.list.now c.args.stack c.loop-instr.instr-index c.args.at.now c.loop-instr.at c.loop-instr.stack
+    (omega arith) c.loop-instr.invariant.behind c.loop-instr.invariant.counted

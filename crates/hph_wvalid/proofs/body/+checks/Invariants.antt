@@ -1,5 +1,7 @@
-use Rattle.std.proofs.Common.{◌+◌, ◌*◌}
+use Rattle.std.proofs.Common.{◌≡◌, ◌+◌, ◌*◌, take}
 use Rattle.hph_wasm.specs.Rows.{size, list_size}
+use Rattle.hph_wvalid.specs.Spaces.{context_of}
+use Rattle.hph_wvalid.proofs.Fronts.{IsBehind}
 use Rattle.hph_wvalid.proofs.body.+checks.Given as goal
 
 abbrev pub decreases-check_all : goal.decreases-check_all
@@ -19,3 +21,10 @@ decreases-check_branches l = 2 * (list_size l.body.now + list_size l.other.now) 
 
 abbrev pub decreases-check_inside : goal.decreases-check_inside
 decreases-check_inside l = 2 * list_size l.body.now + 2
+
+abbrev pub invariant-check_all-loop-instr : goal.invariant-check_all-loop-instr
+invariant-check_all-loop-instr l = record {
+  behind : IsBehind l.m (context_of l.fn.scope) l.list l.fn.stack l.instr-index l.stack;
+  counted : l.at ≡ l.fn.at + list_size (take l.instr-index l.list);
+  same : l.scope ≡ l.fn.scope;
+}
