@@ -1,0 +1,5 @@
+pub mod Enclosed
+pub mod Order
+pub mod Paths
+pub mod Parts
+pub mod Names

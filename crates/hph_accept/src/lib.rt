@@ -1,0 +1,21 @@
+//! The first construct of a file that is refused: one that a token tells, or one that the tree tells.
+//!
+//! Which constructs are refused, where, and in what order is defined in `hph_ast`; the two contracts here say that nothing
+//! else is answered. No memory is taken.
+#![tactic(auto)]
+
+mod classes;
+mod context;
+mod declarations;
+mod earliest;
+mod enclosing;
+mod expressions;
+mod names;
+mod shapes;
+mod statements;
+#[cfg(test)]
+mod tests;
+mod tokens;
+
+pub use statements::tree_construct;
+pub use tokens::token_construct;
