@@ -5,8 +5,6 @@
 
 mod fault;
 mod file;
-#[cfg(test)]
-mod tests;
 
 pub use fault::TextsFault;
 pub use file::texts;
