@@ -1,4 +1,5 @@
 pub mod OneForm
+pub mod LocalLaws
 pub mod Leb128Laws
 pub mod Leb128Examples
 pub mod CountedForms

@@ -4,6 +4,7 @@ pub mod Codes
 pub mod OpcodeTable
 pub mod InstructionGrammar
 pub mod ModuleGrammar
+pub mod LocalRuns
 pub mod Spelling
 pub mod Unsupported
 pub mod OneWay

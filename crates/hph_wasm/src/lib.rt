@@ -10,6 +10,7 @@ mod format;
 mod host;
 mod instr;
 mod laws;
+mod locals;
 mod module;
 mod name;
 mod parts;
@@ -31,6 +32,7 @@ pub use laws::{
     never_stuck, one_rule_applies, php1_both_directions, php1_never_stuck, php1_runs,
     reductions_in_turn, run_laws, steps_are_rewritings, traps_are_at_opcodes,
 };
+pub use locals::Locals;
 pub use module::{Element, Export, ExportDesc, Func, Global, Import, ImportDesc, Module, Segment};
 pub use name::Name;
 pub use parts::{

@@ -1,6 +1,7 @@
 use crate::instr::Instr;
+use crate::locals::Locals;
 use crate::name::Name;
-use crate::types::{FuncType, GlobalType, Limits, ValType};
+use crate::types::{FuncType, GlobalType, Limits};
 use sqlite_items::Items;
 
 /// A module, with a list for each kind of its sections (Core Specification 1.0, 2.5).
@@ -40,7 +41,7 @@ pub enum ImportDesc {
 #[derive(Debug, Drop)]
 pub struct Func {
     pub ty: u32,
-    pub locals: Items<ValType>,
+    pub locals: Locals,
     pub body: Items<Instr>,
 }
 

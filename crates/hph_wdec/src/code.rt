@@ -11,7 +11,7 @@ ghost use Rattle.hph_wdec.specs.Next.{CodesFor, StopsCodesFor};
 use crate::entries::{EntryForm, counted_entries};
 use crate::locals::locals;
 use hph_wasm::{
-    Instr, ValType, instructions_are_read_in_one_way, parts_stop_in_one_place,
+    Instr, Locals, instructions_are_read_in_one_way, parts_stop_in_one_place,
     sections_are_read_in_one_way, types_are_read_in_one_way,
 };
 use hph_wread::{Fault, expression, unsigned};
@@ -19,7 +19,7 @@ use sqlite_items::Items;
 use std::alloc::Global;
 
 /// The locals of a function behind its parameters, and its body.
-pub type FuncCode = (Items<ValType>, Items<Instr>);
+pub type FuncCode = (Locals, Items<Instr>);
 
 /// Code of functions.
 pub struct CodeForm;

@@ -1,5 +1,5 @@
 //! The locals of a function, in runs of one type (Core Specification 1.0, 5.5.13).
-ghost use Rattle.std.specs.Prelude.{◌≡◌, ◌≤◌, ◌+◌, ◌++◌, length, replicate, IfOk, IfErr, OnOk};
+ghost use Rattle.std.specs.Prelude.{◌≡◌, ◌≤◌, ◌+◌, IfOk, IfErr};
 ghost use Rattle.hph_wasm.specs.ModuleGrammar.{LocalRun, Locals};
 ghost use Rattle.hph_wasm.specs.Unsupported.{Any, AreFew, StopsLocals, StopsRun, StopsRuns, most_locals};
 ghost use Rattle.hph_wread.specs.Counted.{Counted};
@@ -11,14 +11,13 @@ use hph_wasm::{
     types_are_read_in_one_way,
 };
 use hph_wread::{Fault, unsigned, value_type};
-use sqlite_items::Items;
-use std::alloc::{AllocError, Global};
+use std::alloc::Global;
 
 /// The most locals that a function may have beside its parameters.
 const MOST_LOCALS: u32 = 1048576;
 
 /// The locals of a function, behind the number of runs.
-pub fn locals(alloc: Global, bytes: &[u8]) -> Result<(Items<ValType>, &[u8]), Fault>
+pub fn locals(alloc: Global, bytes: &[u8]) -> Result<(hph_wasm::Locals, &[u8]), Fault>
     ensures read { IfOk result (λ r. Took (Locals r.0) bytes.now r.1.now) }
     ensures fit { IfOk result (λ r. AreFew r.0) }
     ensures stopped { IfErr result (λ e. Fails (Any Locals) StopsLocals bytes.now e) }
@@ -30,7 +29,7 @@ pub fn locals(alloc: Global, bytes: &[u8]) -> Result<(Items<ValType>, &[u8]), Fa
 }
 
 /// The locals that so many runs make.
-fn runs(alloc: Global, count: u32, bytes: &[u8]) -> Result<(Items<ValType>, &[u8]), Fault>
+fn runs(alloc: Global, count: u32, bytes: &[u8]) -> Result<(hph_wasm::Locals, &[u8]), Fault>
     ensures read { IfOk result (λ r. Took (RunsOf count r.0) bytes.now r.1.now) }
     ensures fit { IfOk result (λ r. AreFew r.0) }
     ensures stopped { IfErr result (λ e. Fails (Counted LocalRun count) (StopsRuns count) bytes.now e) }
@@ -38,11 +37,11 @@ fn runs(alloc: Global, count: u32, bytes: &[u8]) -> Result<(Items<ValType>, &[u8
     sections_are_read_in_one_way();
     types_are_read_in_one_way();
     parts_stop_in_one_place();
-    let mut locals = Items::new(alloc);
+    let mut locals = hph_wasm::Locals::new(alloc);
     let mut rest = bytes;
     for _ in 0..count {
-        let (number, ty, after) = run(locals.len() as u32, rest)?;
-        push_run(&mut locals, number, ty)?;
+        let (number, ty, after) = run(locals.len(), rest)?;
+        locals.push_run(number, ty)?;
         rest = after;
     }
     Ok((locals, rest))
@@ -62,14 +61,4 @@ fn run(total: u32, bytes: &[u8]) -> Result<(u32, ValType, &[u8]), Fault>
     }
     let (ty, rest) = value_type(behind)?;
     Ok((number, ty, rest))
-}
-
-/// Adds so many locals of a type.
-fn push_run(locals: &mut Items<ValType>, number: u32, ty: ValType) -> Result<(), AllocError>
-    ensures { OnOk result (locals.new ≡ locals.old ++ replicate number ty) }
-{
-    for _ in 0..number {
-        locals.push(ty)?;
-    }
-    Ok(())
 }

@@ -24,7 +24,7 @@ const HEADER: [u8; 8] = [0x00, b'a', b's', b'm', 0x01, 0x00, 0x00, 0x00];
 
 /// The module that the bytes spell, if nothing that is left out stands in them (5.5.15). Parts are read from the front, and the
 /// first fault is told: something that is left out is met before what is wrong behind it. Takes time and memory for what is
-/// spelled, each local counted, and not for what sizes and counts promise.
+/// spelled, each run of locals counted, and not for what sizes and counts promise.
 pub fn read(alloc: Global, bytes: &[u8]) -> Result<Module, ModuleFault>
     requires short { length bytes.now < 2 ^ 32 }
     ensures spelled { IfOk result (λ m. SpellsModule bytes.now m) }

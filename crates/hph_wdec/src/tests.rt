@@ -106,3 +106,20 @@ fn too_many_locals_are_unsupported_at_the_count_that_passes(rt: HostRuntime) -> 
     assert_eq!(rt; fault_behind_header(alloc, &sections)?, fault);
     Ok(())
 }
+
+#[test]
+fn as_many_locals_as_there_may_be_are_one_run(rt: HostRuntime) -> Result<(), Fail> {
+    let alloc = rt.alloc();
+    let mut bytes = Vec::from_slice(alloc, &PRINTS_THREE[..8])?;
+    bytes.extend_from_slice(&[
+        0x01, 0x04, 0x01, 0x60, 0x00, 0x00, // a type
+        0x03, 0x02, 0x01, 0x00, // a function
+        0x0A, 0x08, 0x01, 0x06, 0x01, 0x80, 0x80, 0x40, 0x7F, 0x0B, // 1048576 locals of i32
+    ])?;
+    let locals = match read(alloc, &bytes) {
+        Ok(m) => m.funcs.get(0).map(|func| func.locals.len()),
+        Err(_) => None,
+    };
+    assert_eq!(rt; locals, Some(1048576));
+    Ok(())
+}

@@ -33,7 +33,7 @@ pub fn code(alloc: Global, func: &Func) -> Result<Items<u8>, AllocError>
     ensures content { IfOk result (λ content. content ≡ content_of func.now) }
     ensures fit { OnOk result (CodeFits func.now) }
 {
-    let runs = local_runs(alloc, func.locals.as_slice())?;
+    let runs = local_runs(alloc, &func.locals)?;
     let mut content = Vec::new(alloc);
     put_vector(&mut content, &runs)?;
     put_expression(&mut content, func.body.as_slice())?;

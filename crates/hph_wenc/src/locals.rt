@@ -1,11 +1,12 @@
 //! Locals, in runs of one type (Core Specification 1.0, 5.5.13).
 ghost use Rattle.std.specs.Prelude.{◌≡◌, ◌<◌, ◌^◌, ◌+◌, ◌++◌, length, reverse, All, IfOk, OnOk};
-ghost use Rattle.hph_wasm.specs.Spelling.{run_bytes, runs_of, with_local};
+ghost use Rattle.hph_wasm.specs.Spelling.{run_bytes, runs_of};
+ghost use Rattle.hph_wenc.specs.Runs.{with_locals};
 
 use crate::put::Put;
 use crate::types::value_type_code;
 use hph_leb::put_u32;
-use hph_wasm::ValType;
+use hph_wasm::{Locals, ValType};
 use std::alloc::{AllocError, Global};
 use std::marker::Model;
 
@@ -36,30 +37,31 @@ impl Put for LocalRun {
     }
 }
 
-/// The longest runs of equal locals, in linear time.
-pub fn local_runs(alloc: Global, locals: &[ValType]) -> Result<Vec<LocalRun>, AllocError>
+/// The longest runs of equal locals, in time of the number of runs that the locals are kept in.
+pub fn local_runs(alloc: Global, locals: &Locals) -> Result<Vec<LocalRun>, AllocError>
     requires { length locals.now < 2 ^ 32 }
     ensures { IfOk result (λ runs. runs.items ≡ runs_of locals.now) }
 {
+    let mut kept = locals.runs(alloc)?;
     let mut runs = Vec::new(alloc);
-    let mut rest = locals;
-    while let [before @ .., ty] = rest {
-        put_local(&mut runs, *ty)?;
-        rest = before;
+    while let Some((count, ty)) = kept.pop() {
+        if count > 0 {
+            put_run(&mut runs, count, ty)?;
+        }
     }
     runs.reverse();
     Ok(runs)
 }
 
-/// Puts a local before runs that are held the last one first.
-fn put_local(runs: &mut Vec<LocalRun>, ty: ValType) -> Result<(), AllocError>
-    requires { All (λ run. run.0 + 1 < 2 ^ 32) runs.old.items }
-    ensures { OnOk result (reverse runs.new.items ≡ with_local ty (reverse runs.old.items)) }
+/// Puts some locals of a type before runs that are held the last one first.
+fn put_run(runs: &mut Vec<LocalRun>, count: u32, ty: ValType) -> Result<(), AllocError>
+    requires { All (λ run. run.0 + count < 2 ^ 32) runs.old.items }
+    ensures { OnOk result (reverse runs.new.items ≡ with_locals count ty (reverse runs.old.items)) }
 {
-    let mut count = 1;
+    let mut count = count;
     if let Some(run) = runs.pop() {
         if run.ty == ty {
-            count = run.count + 1;
+            count += run.count;
         } else {
             runs.push(run)?;
         }

@@ -8,8 +8,8 @@ use crate::instructions::put_expression;
 use crate::write;
 use hph_wasm::{
     Binary, BlockType, Comparison, Element, Export, ExportDesc, Func, FuncType,
-    Global as GlobalDef, GlobalType, Import, ImportDesc, Instr, Limits, MemArg, Module, Name,
-    NarrowLoad, NarrowStore, Segment, Sign, Unary, ValType,
+    Global as GlobalDef, GlobalType, Import, ImportDesc, Instr, Limits, Locals, MemArg, Module,
+    Name, NarrowLoad, NarrowStore, Segment, Sign, Unary, ValType,
 };
 use sqlite_items::Items;
 use std::alloc::{AllocError, Global};
@@ -18,10 +18,10 @@ use std::test::Fail;
 #[test]
 fn joins_equal_locals_and_ends_blocks(rt: HostRuntime) -> Result<(), Fail> {
     let alloc = rt.alloc();
-    let locals = Items::from_slice(
-        alloc,
-        &[ValType::I32, ValType::I32, ValType::I64, ValType::I32],
-    )?;
+    let mut locals = Locals::new(alloc);
+    locals.push_run(2, ValType::I32)?;
+    locals.push_run(1, ValType::I64)?;
+    locals.push_run(1, ValType::I32)?;
     let inner = Items::from_vec(vec![in alloc; Instr::Call(3)]?);
     let nothing = BlockType { result: None };
     let outer = Items::from_vec(vec![in alloc; Instr::Block(nothing, inner), Instr::I32Const(-1)]?);
@@ -84,7 +84,7 @@ fn prints_three(alloc: Global) -> Result<Module, AllocError>
     let body = vec![in alloc; Instr::I32Const(0), Instr::I32Const(1), Instr::Call(0)]?;
     let func = Func {
         ty: 1,
-        locals: Items::new(alloc),
+        locals: Locals::new(alloc),
         body: Items::from_vec(body),
     };
     let export = Export {
@@ -205,7 +205,7 @@ fn exports_each_kind(alloc: Global) -> Result<Module, AllocError>
     };
     let func = Func {
         ty: 0,
-        locals: Items::new(alloc),
+        locals: Locals::new(alloc),
         body: Items::new(alloc),
     };
     let variable = GlobalType {

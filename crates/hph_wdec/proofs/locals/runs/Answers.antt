@@ -16,5 +16,5 @@ returns-in_err-number-clause-stopped c =
 
 pub loop-preserved : goal.loop-preserved
 loop-preserved c =
-    one_more_run c.loop.locals c.push_run.new.locals c.loop.counter c.in_ok-number.number c.in_ok-number.ty c.loop.invariant c.in_ok-number.ensures.read
-    (omega (arith, c.in_ok-number.ensures.few, c.len.ensures)) c.in_ok-push_run.ensures
+    one_more_run c.loop.locals c.push_run.new.self c.loop.counter c.in_ok-number.number c.in_ok-number.ty c.loop.invariant c.in_ok-number.ensures.read
+    (omega (arith, c.in_ok-number.ensures.few, c.len.ensures)) c.in_ok-push_run.ensures.pushed

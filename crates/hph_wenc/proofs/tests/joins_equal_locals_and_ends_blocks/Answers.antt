@@ -35,4 +35,5 @@ code-requires-clause-short g c =
     let inner_is = c.from_vec-inner.ensures ∙ c.in_ok-vec.ensures.items in
     let outer_is = c.from_vec-outer.ensures ∙ c.in_ok-vec-2.ensures.items ∙ ap (λ inside. view.Block nothing inside ∷ I32Const (negsuc 0) ∷ []) inner_is in
     let body_is = c.from_vec-body.ensures ∙ c.in_ok-vec-3.ensures.items ∙ ap (λ inside. view.Block number inside ∷ []) outer_is in
-    rw c.in_ok-locals.ensures (subst (λ instrs. length (content_of (record { ty = 0; locals = I32 ∷ I32 ∷ I64 ∷ I32 ∷ []; body = instrs })) < 2 ^ 32) (sym body_is) few)
+    rw (c.in_ok-push_run-3.ensures.pushed, c.in_ok-push_run-2.ensures.pushed, c.in_ok-push_run.ensures.pushed, c.new-locals.ensures)
+    (subst (λ instrs. length (content_of (record { ty = 0; locals = I32 ∷ I32 ∷ I64 ∷ I32 ∷ []; body = instrs })) < 2 ^ 32) (sym body_is) few)
