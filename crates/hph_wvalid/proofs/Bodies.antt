@@ -1,5 +1,5 @@
 -- A body's check tells validity and the first fault.
-use Rattle.std.proofs.Common.{◌≡◌, inl, inr, ℕ, suc, List, [], reverse, sym, subst, arith, zero-add, Bool, true, false, Option}
+use Rattle.std.proofs.Common.{◌≡◌, inl, inr, ℕ, suc, List, [], ◌++◌, reverse, sym, ap, subst, arith, zero-add, Bool, true, false, Option}
 use Rattle.std.specs.Prelude.{MatchOption}
 use Rattle.hph_wasm.specs.declared.instr.Instr.{Instr, Row_of-Instr, end_of-Instr, more_of-Instr, items-the_row-Instr, items_hidden-the_row-Instr-0}
 use Rattle.hph_wasm.specs.declared.instr.Instr.TheBlock.{hidden-the_row-Instr-0}
@@ -54,6 +54,13 @@ body_told m ty f =
     let told = closed_body m ty f _ (closed_told m (body_context ty f) row (reverse ty.results) 0 nothing (check_row m (body_context ty f) row nothing) (tells_row m (body_context ty f) row nothing)) in
     subst (λ v. BodyTold m ty f (closed_by 0 (list_size f.body) (reverse ty.results) nothing v)) (checks_list m (body_context ty f) f.body nothing)
     (subst (λ n. BodyTold m ty f (closed_by 0 n (reverse ty.results) nothing (check_row m (body_context ty f) row nothing))) (size_list f.body) told)
+
+-- What stands around the outermost label, where the code has no labels yet.
+abbrev pub around : FuncType → Func → List (List ValType) → Context
+around ty f labels = record { locals = ty.params ++ f.locals; labels = reverse labels; result = reverse ty.results }
+
+pub outermost : (ty : FuncType) (f : Func) (labels : List (List ValType)) → labels ≡ [] → around ty f labels ≡ outer_scope ty f
+outermost ty f labels none = ap (around ty f) none
 
 -- what is answered
 abbrev pub Answered : Module → FuncType → Func → Option ℕ → Type 0

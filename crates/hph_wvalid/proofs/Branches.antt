@@ -6,7 +6,7 @@ use Rattle.hph_wasm.specs.declared.types.BlockType.{BlockType}
 use Rattle.hph_wasm.specs.declared.module.Module.{Module}
 use Rattle.hph_wasm.specs.Rows.{list_size}
 use Rattle.hph_wasm.specs.Validity.{Context, under_label, results_of}
-use Rattle.hph_wvalid.specs.declared.stack.Stack.{Stack}
+use Rattle.hph_wvalid.specs.Stacks.{Stack}
 use Rattle.hph_wvalid.specs.Checking.{Fine, Fault, Agrees, AgreesBlock, nothing, push_all, closed_by, and_then, check_list, block_verdict, branches_verdict}
 use Rattle.hph_wvalid.proofs.Views.{closed_well, closed_ill, with_results}
 

@@ -3,9 +3,7 @@ use Rattle.std.proofs.Common.{◌≡◌, ◌≤◌, ◌<◌, ◌∙◌, ℕ, suc
 use Rattle.std.specs.Prelude.{slice_get, nat_lt, nat_le, ◌&&◌}
 use Rattle.std.specs.List.{AllByRecursion}
 use Rattle.std.proofs.lemmas.Bool.{le-leb, lt-ltb, leb-true, ltb-true}
-use Rattle.hph_wvalid.specs.declared.signature.Signature.{Signature}
-use Rattle.hph_wvalid.specs.declared.signature.Signature.TheVariants.{From, Last}
-use Rattle.hph_wvalid.specs.declared.stack.Stack.{Stack}
+use Rattle.hph_wvalid.specs.Stacks.{Stack}
 use Rattle.hph_wasm.specs.declared.instr.Instr.{Instr, Unreachable, Nop, Block', Loop', If', Br, BrIf, BrTable, Return, Call, CallIndirect, Drop, Select, LocalGet, LocalSet, LocalTee, GlobalGet, GlobalSet, Load, LoadNarrow, Store, StoreNarrow, I32Const, I64Const, Eqz, Compare, Unary, Binary, Wrap, Extend, Row_of-Instr, end_of-Instr, more_of-Instr, Held-Instr-If-2, None', Some'}
 use Rattle.hph_wasm.specs.declared.types.ValType.{ValType}
 use Rattle.hph_wasm.specs.declared.types.ValType.TheVariants.{I32, I64}
@@ -22,7 +20,7 @@ use Rattle.hph_wasm.specs.Rows.{size, row_size, else_size}
 use Rattle.hph_wasm.specs.Reduction.{same_types}
 use Rattle.hph_wasm.specs.Validity.{Context, under_label, results_of, Takes, Ends, IsAccess, IsInstr, IsRow}
 use Rattle.hph_wasm.specs.Faults.{RowBegins, InstrBegins, ElseBegins}
-use Rattle.hph_wvalid.specs.Checking.{is_kind, nothing, pop, pops, push_all, drop_of, select_of, all_labels, access, plain, obeyed, Verdict, Fine, Fault, first_at_fault, is_nil, ends, closed_by, and_then, later, check, check_row, check_else}
+use Rattle.hph_wvalid.specs.Checking.{Signature, From, Last, is_kind, nothing, pop, pops, push_all, drop_of, select_of, all_labels, access, plain, obeyed, Verdict, Fine, Fault, first_at_fault, is_nil, ends, closed_by, and_then, later, check, check_row, check_else}
 use Rattle.hph_wvalid.specs.Kinds.{Match, Holds, Strongest, Told, Obeys, TellsInstr, TellsRow}
 use Rattle.hph_wvalid.proofs.Pops.{kind_true, kind_is, obeyed_told, drop_told, ends_true, holds_ends, some_stack, pops_sound, pops_complete}
 

@@ -1,11 +1,11 @@
 -- Checking a list of instructions from the front.
-use Rattle.std.proofs.Common.{◌≡◌, ◌≤◌, ◌∙◌, ℕ, zero, suc, ◌+◌, List, [], ◌∷◌, Option, Some, None, length, take, drop, refl, sym, ap, subst, arith, zero-add, add_assoc}
+use Rattle.std.proofs.Common.{◌≡◌, ◌≤◌, ◌∙◌, ℕ, zero, suc, ◌+◌, List, [], ◌∷◌, Some, None, length, take, drop, refl, sym, ap, subst, arith, zero-add, add_assoc}
 use Rattle.std.specs.Prelude.{slice_get}
 use Rattle.hph_wasm.specs.declared.instr.Instr.{Instr}
 use Rattle.hph_wasm.specs.declared.module.Module.{Module}
 use Rattle.hph_wasm.specs.Rows.{size, list_size}
 use Rattle.hph_wasm.specs.Validity.{Context}
-use Rattle.hph_wvalid.specs.declared.stack.Stack.{Stack}
+use Rattle.hph_wvalid.specs.Stacks.{Stack}
 use Rattle.hph_wvalid.specs.Checking.{Verdict, Fine, Fault, and_then, later, check, check_list, Agrees}
 
 -- The list from an instruction on, and the opcodes up to it and with it.

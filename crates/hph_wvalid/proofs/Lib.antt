@@ -6,6 +6,10 @@ pub mod Branches
 pub mod Fronts
 pub mod Bodies
 pub mod Labels
+pub mod Decisions
+pub mod Names
+pub mod Turned
+pub mod Unknown
 pub mod OutsideLaws
 pub mod Spellings
 pub mod Places

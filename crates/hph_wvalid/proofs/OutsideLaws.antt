@@ -1,11 +1,12 @@
 -- The tests outside of code are the rules.
-use Rattle.std.proofs.Common.{◌≡◌, ◌≢◌, ◌≤◌, ◌<◌, ◌^◌, ◌∙◌, ℕ, zero, suc, ◌+◌, List, [], ◌∷◌, ◌++◌, map, length, Option, Some, None, Bool, true, false, cond, refl, sym, ap, subst, arith}
-use Rattle.std.specs.Prelude.{◌&&◌, nat_eq, nat_lt, nat_le, IfSome, All, slice_get}
+use Rattle.std.proofs.Common.{◌≡◌, ◌≤◌, ◌<◌, ◌^◌, ◌∙◌, ℕ, zero, suc, ◌+◌, List, [], ◌∷◌, ◌++◌, map, length, Option, Some, None, Bool, true, false, cond, refl, sym, ap, subst, arith}
+use Rattle.std.specs.Prelude.{◌&&◌, ◌↔◌, nat_lt, nat_le, IfSome, IfOk, IsTrue, slice_get}
+use Rattle.std.specs.declared.alloc.AllocError.{AllocError}
+use Rattle.std.specs.declared.result.Result.{Result}
+use Rattle.std.specs.declared.result.Result.TheVariants.{Ok, Err}
 use Rattle.std.specs.List.{AllByRecursion}
 use Rattle.std.proofs.lemmas.Bool.{le-leb, lt-ltb, leb-true, ltb-true}
 use Rattle.std.proofs.lemmas.List.{length-map}
-use Rattle.std.proofs.lemmas.List.Elements.{All-from_recursion, recursion_from_All}
-use Rattle.std.proofs.lemmas.List.Kept.{AllPairs-cons}
 use Rattle.hph_wasm.specs.declared.instr.Instr.{Instr, Unreachable, Nop, Block', Loop', If', Br, BrIf, BrTable, Return, Call, CallIndirect, Drop, Select, LocalGet, LocalSet, LocalTee, GlobalGet, GlobalSet, Load, LoadNarrow, StoreNarrow, I32Const, I64Const, Eqz, Compare, Unary, Binary, Wrap, Extend}
 use Rattle.hph_wasm.specs.declared.instr.Instr as instr
 use Rattle.hph_wasm.specs.declared.types.ValType.{ValType}
@@ -30,19 +31,10 @@ use Rattle.hph_wasm.specs.ModuleValidity.{IsLimits, IsTable, IsMemory, HasOneTab
 use Rattle.hph_wvalid.specs.declared.stack.Kind.TheVariants.{Known}
 use Rattle.hph_wvalid.specs.Checking.{is_kind}
 use Rattle.hph_wvalid.specs.Spaces.{spaces_of}
-use Rattle.hph_wvalid.specs.Outside.{every, is_func_type, is_max, is_limits, is_import, is_export, constant_type, is_initial, is_global, is_element, is_segment, is_same, is_new, is_named_once, are_types, are_contents}
+use Rattle.hph_wvalid.specs.Outside.{every, is_func_type, is_max, is_limits, is_import, is_export, constant_type, is_initial, is_global, is_element, is_segment, are_types, are_contents}
 use Rattle.hph_wvalid.proofs.Pops.{kind_true, kind_is}
-
--- A test passes just where a fact holds.
-abbrev pub Tells : Bool → Type 0 → Type 0
-Tells b P = (b ≡ true → P) × (P → b ≡ true)
-
-and_true : (a b : Bool) → (a && b) ≡ true → (a ≡ true) × (b ≡ true)
-and_true true b e = (refl, e)
-and_true false b e = let no : ⊥ = cc in absurd no
-
-true_and : (a b : Bool) → a ≡ true → b ≡ true → (a && b) ≡ true
-true_and a b p q = ap (λ a. a && b) p ∙ q
+use Rattle.hph_wvalid.proofs.Decisions.{Tells, and_true, true_and}
+use Rattle.hph_wvalid.proofs.Names.{named_tells}
 
 both_tell : (a b : Bool) (P Q : Type 0) → Tells a P → Tells b Q → Tells (a && b) (P × Q)
 both_tell a b P Q s t = (
@@ -226,53 +218,6 @@ element_tells m element = flat (is_element (spaces_of m) element) (element.table
 segment_tells : (m : Module) (segment : Segment) → Tells (is_segment (spaces_of m) segment) (IsSegment m segment)
 segment_tells m segment = both_tell _ _ _ _ (lt_tells segment.memory (length (memories m))) (initial_tells m (globals m) (λ x g e. e) I32 segment.offset)
 
--- Names.
-eq_number : (x y : ℕ) → nat_eq x y ≡ true → x ≡ y
-eq_number x y e = grind (arith, e)
-
-eq_self : (n : ℕ) → nat_eq n n ≡ true
-eq_self n = grind arith
-
-same_self : (xs : List ℕ) → is_same xs xs ≡ true
-same_self [] = refl
-same_self (x ∷ xs) = true_and _ _ (eq_self x) (same_self xs)
-
-same_is : (xs ys : List ℕ) → is_same xs ys ≡ true → xs ≡ ys
-same_is [] [] e = refl
-same_is [] (y ∷ ys) e = let no : ⊥ = cc in absurd no
-same_is (x ∷ xs) [] e = let no : ⊥ = cc in absurd no
-same_is (x ∷ xs) (y ∷ ys) e =
-    let parts = and_true (nat_eq x y) (is_same xs ys) e in
-    ap (λ x. x ∷ xs) (eq_number x y parts.0) ∙ ap (λ xs. y ∷ xs) (same_is xs ys parts.1)
-
-by_same : (name : List ℕ) (export : Export) (exports : List Export) → Tells (is_new name exports) (AllByRecursion (λ other. name ≢ other.name) exports) →
-    (b : Bool) → is_same name export.name ≡ b → Tells (cond b false (is_new name exports)) ((name ≢ export.name) × AllByRecursion (λ other. name ≢ other.name) exports)
-by_same name export exports told true e = ((λ no. (let none : ⊥ = cc in absurd none)), (λ h. absurd (h.0 (same_is name export.name e))))
-by_same name export exports told false e = (
-  (λ rest. ((λ same. let other : is_same name export.name ≡ true = ap (is_same name) (sym same) ∙ same_self name in (let none : ⊥ = cc in none)), told.0 rest)),
-  (λ h. told.1 h.1),
-)
-
-new_tells : (name : List ℕ) (exports : List Export) → Tells (is_new name exports) (AllByRecursion (λ other. name ≢ other.name) exports)
-new_tells name [] = ((λ e. tt), (λ h. refl))
-new_tells name (export ∷ exports) = by_same name export exports (new_tells name exports) (is_same name export.name) refl
-
-pairs_tail : (export : Export) (exports : List Export) → IsNamedOnce (export ∷ exports) → IsNamedOnce exports
-pairs_tail export exports h i j d lt within = h (suc i) (suc j) d (omega (arith, lt)) (omega (arith, within))
-
-pairs_head : (export : Export) (exports : List Export) → IsNamedOnce (export ∷ exports) → All (λ other. export.name ≢ other.name) exports
-pairs_head export exports h k d within = h zero (suc k) d (omega arith) (omega (arith, within))
-
-named_tells : (exports : List Export) → Tells (is_named_once exports) (IsNamedOnce exports)
-named_tells [] = ((λ e i j d lt within. absurd (omega (arith, within))), (λ h. refl))
-named_tells (export ∷ exports) = (
-  (λ e. let parts = and_true (is_new export.name exports) (is_named_once exports) e in
-      AllPairs-cons (λ a b. a.name ≢ b.name) export exports
-      (All-from_recursion (λ other. export.name ≢ other.name) exports ((new_tells export.name exports).0 parts.0)) ((named_tells exports).0 parts.1)),
-  (λ h. true_and _ _ ((new_tells export.name exports).1 (recursion_from_All (λ other. export.name ≢ other.name) exports (pairs_head export exports h)))
-      ((named_tells exports).1 (pairs_tail export exports h))),
-)
-
 module _ (m : Module) where
   types_tell : Tells (are_types m (spaces_of m)) (AllByRecursion IsFuncType m.types × (AllByRecursion (λ import. IsImportDesc m import.desc) m.imports ×
       (AllByRecursion (λ func. func.ty < length m.types) m.funcs × (AllByRecursion IsTable m.tables × (HasOneTable m ×
@@ -285,13 +230,12 @@ module _ (m : Module) where
       (both_tell _ _ _ _ (every_tells (is_limits 65536) (IsLimits 65536) (limits_tell 65536) m.memories) (le_tells (length (memories m)) 1))))))
 
   contents_tell : Tells (are_contents m (spaces_of m)) (AllByRecursion (IsGlobalDefinition m) m.globals ×
-      (AllByRecursion (λ export. IsExportDesc m export.desc) m.exports × (IsNamedOnce m.exports ×
-      (AllByRecursion (IsElement m) m.elements × AllByRecursion (IsSegment m) m.segments))))
+      (AllByRecursion (λ export. IsExportDesc m export.desc) m.exports × (AllByRecursion (IsElement m) m.elements ×
+      (AllByRecursion (IsSegment m) m.segments × IsNamedOnce m.exports))))
   contents_tell = both_tell _ _ _ _ (every_tells (is_global (imported_globals m.imports)) (IsGlobalDefinition m) (global_tells m) m.globals)
       (both_tell _ _ _ _ (every_tells (λ (export : Export). is_export (spaces_of m) export.desc) (λ export. IsExportDesc m export.desc) (λ export. export_tells m export.desc) m.exports)
-      (both_tell _ _ _ _ (named_tells m.exports)
       (both_tell _ _ _ _ (every_tells (is_element (spaces_of m)) (IsElement m) (element_tells m) m.elements)
-      (every_tells (is_segment (spaces_of m)) (IsSegment m) (segment_tells m) m.segments))))
+      (both_tell _ _ _ _ (every_tells (is_segment (spaces_of m)) (IsSegment m) (segment_tells m) m.segments) (named_tells m.exports))))
 
   -- What passes both tests is valid outside code.
   pub outside_valid : are_types m (spaces_of m) ≡ true → are_contents m (spaces_of m) ≡ true → IsValidOutside m
@@ -307,14 +251,26 @@ module _ (m : Module) where
         one_memory = t.1.1.1.1.1.1;
         globals = u.0;
         exports = u.1.0;
-        named_once = u.1.1.0;
-        elements = u.1.1.1.0;
-        segments = u.1.1.1.1;
+        named_once = u.1.1.1.1;
+        elements = u.1.1.0;
+        segments = u.1.1.1.0;
       }
 
   -- And what is valid there passes both.
   pub valid_outside : IsValidOutside m → (are_types m (spaces_of m) ≡ true) × (are_contents m (spaces_of m) ≡ true)
   valid_outside v = (
     types_tell.1 (v.types, (v.imports, (v.func_types, (v.tables, (v.one_table, (v.memories, v.one_memory)))))),
-    contents_tell.1 (v.globals, (v.exports, (v.named_once, (v.elements, v.segments)))),
+    contents_tell.1 (v.globals, (v.exports, (v.elements, (v.segments, v.named_once)))),
+  )
+
+  -- Where the types are valid, what the test of the contents answers tells validity.
+  pub by_contents : are_types m (spaces_of m) ≡ true → (answer : Result Bool AllocError) → IfOk answer (λ valid. valid ≡ are_contents m (spaces_of m)) →
+      IfOk answer (λ valid. IsTrue valid ↔ IsValidOutside m)
+  by_contents types (Ok valid) e = ((λ passed. outside_valid types (sym e ∙ passed)), (λ h. e ∙ (valid_outside h).1))
+  by_contents types (Err error) e = tt
+
+  pub without_types : are_types m (spaces_of m) ≡ false → IsTrue false ↔ IsValidOutside m
+  without_types e = (
+    (λ no. (let none : ⊥ = cc in absurd none)),
+    (λ h. (let both = (valid_outside h).0 in let none : ⊥ = cc in absurd none)),
   )

@@ -1,16 +1,14 @@
 -- Taking kinds and types from a stack.
 use Rattle.std.proofs.Common.{◌≡◌, ◌∙◌, List, [], ◌∷◌, ◌++◌, Option, Some, None, Bool, true, false, cond, map, refl, sym, ap, subst}
 use Rattle.std.proofs.lemmas.List.{append-nil}
-use Rattle.hph_wvalid.specs.declared.signature.Signature.{Signature}
-use Rattle.hph_wvalid.specs.declared.signature.Signature.TheVariants.{From, Last}
-use Rattle.hph_wvalid.specs.declared.stack.Stack.{Stack}
+use Rattle.hph_wvalid.specs.Stacks.{Stack}
 use Rattle.hph_wasm.specs.declared.types.ValType.{ValType}
 use Rattle.hph_wasm.specs.declared.types.ValType.TheVariants.{I32, I64}
 use Rattle.hph_wvalid.specs.declared.stack.Kind.{Kind}
 use Rattle.hph_wvalid.specs.declared.stack.Kind.TheVariants.{Known, Any}
 use Rattle.hph_wasm.specs.Choice.{if_some}
 use Rattle.hph_wasm.specs.Validity.{Takes}
-use Rattle.hph_wvalid.specs.Checking.{anything, is_kind, pop_of, pop, pops, push_all, drop_of, obeyed, is_nil, ends}
+use Rattle.hph_wvalid.specs.Checking.{Signature, From, Last, anything, is_kind, pop_of, pop, pops, push_all, drop_of, obeyed, is_nil, ends}
 use Rattle.hph_wvalid.specs.Kinds.{Is, Match, Holds, Told, Obeys}
 
 pub some_of : {A B : Type 0} (o : Option A) (go : A → Option B) (y : B) → if_some o None go ≡ Some y → (x : A) × (o ≡ Some x) × (go x ≡ Some y)

@@ -6,7 +6,7 @@ use Rattle.hph_wasm.specs.declared.types.ValType.{ValType}
 use Rattle.hph_wasm.specs.declared.types.ValType.TheVariants.{I32}
 use Rattle.hph_wasm.specs.declared.types.BlockType.{BlockType}
 use Rattle.hph_wasm.specs.declared.module.Module.{Module}
-use Rattle.hph_wvalid.specs.declared.stack.Stack.{Stack}
+use Rattle.hph_wvalid.specs.Stacks.{Stack}
 use Rattle.hph_wasm.specs.Rows.{size, row_size, list_size}
 use Rattle.hph_wasm.specs.Validity.{Context, under_label, results_of}
 use Rattle.hph_wvalid.specs.Checking.{pop, is_nil, first_at_fault, block_verdict, alone_verdict, branches_verdict, Verdict, Fine, Fault, Agrees, AgreesBlock, ends, nothing, push_all, closed_by, and_then, later, check, check_row, check_list}

@@ -6,12 +6,11 @@ use Rattle.hph_wasm.specs.declared.types.ValType.TheVariants.{I32, I64}
 use Rattle.hph_wasm.specs.declared.instr.MemArg.{MemArg}
 use Rattle.hph_wasm.specs.declared.types.FuncType.{FuncType}
 use Rattle.hph_wasm.specs.declared.types.Limits.{Limits}
+use Rattle.hph_wasm.specs.declared.types.GlobalType.{GlobalType}
 use Rattle.hph_wasm.specs.declared.types.BlockType.{BlockType}
 use Rattle.hph_wasm.specs.declared.module.Func.{Func}
 use Rattle.hph_wasm.specs.declared.module.Module.{Module}
-use Rattle.hph_wvalid.specs.declared.stack.Stack.{Stack}
-use Rattle.hph_wvalid.specs.declared.signature.Signature.{Signature}
-use Rattle.hph_wvalid.specs.declared.signature.Signature.TheVariants.{From, Last}
+use Rattle.hph_wvalid.specs.Stacks.{Stack}
 use Rattle.hph_wvalid.specs.declared.stack.Kind.{Kind}
 use Rattle.hph_wvalid.specs.declared.stack.Kind.TheVariants.{Known, Any}
 use Rattle.hph_wasm.specs.Memory.{byte_width, load_type, load_bytes, store_type, store_bytes}
@@ -26,6 +25,11 @@ nothing = record { kinds = []; free = false }
 
 abbrev pub anything : Stack
 anything = record { kinds = []; free = true }
+
+-- The last kind, if there is one, and the others.
+abbrev pub popped : List Kind → Option Kind × List Kind
+popped [] = (None, [])
+popped (k ∷ kinds) = (Some k, kinds)
 
 abbrev pub is_kind : ValType → Kind → Bool
 is_kind t Any = true
@@ -58,9 +62,44 @@ abbrev pub all_labels : List (List ValType) → List ValType → List ℕ → Bo
 all_labels labels ts [] = true
 all_labels labels ts (k ∷ ks) = if_some (slice_get labels k) false (same_types ts) && all_labels labels ts ks
 
+-- What an instruction takes and gives, the last type first; one of the second kind never goes on.
+pub data Signature : Type 0 where
+  From : (takes gives : List ValType) → Signature
+  Last : (takes : List ValType) → Signature
+
 abbrev pub access : List Limits → ℕ → MemArg → Signature → Option Signature
 access found bytes arg sig = if nat_lt 0 (length found) && nat_le (2 ^ arg.align) bytes then Some sig else None
 
+-- Reads and writes of variables, where globals and locals have these types (3.3.3).
+abbrev pub variable_signature : List GlobalType → List ValType → Instr → Option Signature
+variable_signature gs ls (LocalGet x) = if_some (slice_get ls x) None (λ t. Some (From [] (t ∷ [])))
+variable_signature gs ls (LocalSet x) = if_some (slice_get ls x) None (λ t. Some (From (t ∷ []) []))
+variable_signature gs ls (LocalTee x) = if_some (slice_get ls x) None (λ t. Some (From (t ∷ []) (t ∷ [])))
+variable_signature gs ls (GlobalGet x) = if_some (slice_get gs x) None (λ g. Some (From [] (g.value ∷ [])))
+variable_signature gs ls (GlobalSet x) = if_some (slice_get gs x) None (λ g. if g.mutable then Some (From (g.value ∷ []) []) else None)
+variable_signature gs ls _ = None
+
+-- Accesses to the memory, where these are found (3.3.4).
+abbrev pub access_signature : List Limits → Instr → Option Signature
+access_signature found (Load t a) = access found (byte_width t) a (From (I32 ∷ []) (t ∷ []))
+access_signature found (LoadNarrow load a) = access found (load_bytes load) a (From (I32 ∷ []) (load_type load ∷ []))
+access_signature found (Store t a) = access found (byte_width t) a (From (t ∷ I32 ∷ []) [])
+access_signature found (StoreNarrow store a) = access found (store_bytes store) a (From (store_type store ∷ I32 ∷ []) [])
+access_signature found _ = None
+
+-- Instructions on numbers (3.3.1).
+abbrev pub numeric_signature : Instr → Option Signature
+numeric_signature (I32Const z) = Some (From [] (I32 ∷ []))
+numeric_signature (I64Const z) = Some (From [] (I64 ∷ []))
+numeric_signature (Eqz t) = Some (From (t ∷ []) (I32 ∷ []))
+numeric_signature (Compare t o) = Some (From (t ∷ t ∷ []) (I32 ∷ []))
+numeric_signature (Unary t o) = Some (From (t ∷ []) (t ∷ []))
+numeric_signature (Binary t o) = Some (From (t ∷ t ∷ []) (t ∷ []))
+numeric_signature Wrap = Some (From (I64 ∷ []) (I32 ∷ []))
+numeric_signature (Extend s) = Some (From (I32 ∷ []) (I64 ∷ []))
+numeric_signature _ = None
+
+-- Instructions that hold no others, but for `drop` and `select`.
 abbrev pub plain : Module → Context → Instr → Option Signature
 plain m c Unreachable = Some (Last [])
 plain m c Nop = Some (From [] [])
@@ -70,24 +109,16 @@ plain m c (BrTable ks k) = if_some (slice_get c.labels k) None (λ ts. if all_la
 plain m c Return = Some (Last c.result)
 plain m c (Call f) = if_some (func_type m f) None (λ ty. Some (From (reverse ty.params) (reverse ty.results)))
 plain m c (CallIndirect n) = if_some (slice_get m.types n) None (λ ty. if nat_lt 0 (length (tables m)) then Some (From (I32 ∷ reverse ty.params) (reverse ty.results)) else None)
-plain m c (LocalGet x) = if_some (slice_get c.locals x) None (λ t. Some (From [] (t ∷ [])))
-plain m c (LocalSet x) = if_some (slice_get c.locals x) None (λ t. Some (From (t ∷ []) []))
-plain m c (LocalTee x) = if_some (slice_get c.locals x) None (λ t. Some (From (t ∷ []) (t ∷ [])))
-plain m c (GlobalGet x) = if_some (slice_get (globals m) x) None (λ g. Some (From [] (g.value ∷ [])))
-plain m c (GlobalSet x) = if_some (slice_get (globals m) x) None (λ g. if g.mutable then Some (From (g.value ∷ []) []) else None)
-plain m c (Load t a) = access (memories m) (byte_width t) a (From (I32 ∷ []) (t ∷ []))
-plain m c (LoadNarrow load a) = access (memories m) (load_bytes load) a (From (I32 ∷ []) (load_type load ∷ []))
-plain m c (Store t a) = access (memories m) (byte_width t) a (From (t ∷ I32 ∷ []) [])
-plain m c (StoreNarrow store a) = access (memories m) (store_bytes store) a (From (store_type store ∷ I32 ∷ []) [])
-plain m c (I32Const z) = Some (From [] (I32 ∷ []))
-plain m c (I64Const z) = Some (From [] (I64 ∷ []))
-plain m c (Eqz t) = Some (From (t ∷ []) (I32 ∷ []))
-plain m c (Compare t o) = Some (From (t ∷ t ∷ []) (I32 ∷ []))
-plain m c (Unary t o) = Some (From (t ∷ []) (t ∷ []))
-plain m c (Binary t o) = Some (From (t ∷ t ∷ []) (t ∷ []))
-plain m c Wrap = Some (From (I64 ∷ []) (I32 ∷ []))
-plain m c (Extend s) = Some (From (I32 ∷ []) (I64 ∷ []))
-plain m c _ = None
+plain m c (LocalGet x) = variable_signature (globals m) c.locals (LocalGet x)
+plain m c (LocalSet x) = variable_signature (globals m) c.locals (LocalSet x)
+plain m c (LocalTee x) = variable_signature (globals m) c.locals (LocalTee x)
+plain m c (GlobalGet x) = variable_signature (globals m) c.locals (GlobalGet x)
+plain m c (GlobalSet x) = variable_signature (globals m) c.locals (GlobalSet x)
+plain m c (Load t a) = access_signature (memories m) (Load t a)
+plain m c (LoadNarrow load a) = access_signature (memories m) (LoadNarrow load a)
+plain m c (Store t a) = access_signature (memories m) (Store t a)
+plain m c (StoreNarrow store a) = access_signature (memories m) (StoreNarrow store a)
+plain m c i = numeric_signature i
 
 abbrev pub obeyed : Option Signature → Stack → Option Stack
 obeyed None s = None

@@ -1,8 +1,6 @@
 -- The stacks of types that a stack of kinds stands for, and what a verdict says of them.
 use Rattle.std.specs.Prelude.{◌≡◌, ◌⊎◌, suc, List, [], ◌∷◌, Bool, true, false, Option, Some, None}
-use Rattle.hph_wvalid.specs.declared.signature.Signature.{Signature}
-use Rattle.hph_wvalid.specs.declared.signature.Signature.TheVariants.{From, Last}
-use Rattle.hph_wvalid.specs.declared.stack.Stack.{Stack}
+use Rattle.hph_wvalid.specs.Stacks.{Stack}
 use Rattle.hph_wasm.specs.declared.instr.Instr.{Instr, Row_of-Instr}
 use Rattle.hph_wasm.specs.declared.types.ValType.{ValType}
 use Rattle.hph_wasm.specs.declared.module.Module.{Module}
@@ -10,7 +8,7 @@ use Rattle.hph_wvalid.specs.declared.stack.Kind.{Kind}
 use Rattle.hph_wvalid.specs.declared.stack.Kind.TheVariants.{Known, Any}
 use Rattle.hph_wasm.specs.Validity.{Context, Takes, Ends, IsInstr, IsRow}
 use Rattle.hph_wasm.specs.Faults.{RowBegins, InstrBegins}
-use Rattle.hph_wvalid.specs.Checking.{Verdict, Fine, Fault}
+use Rattle.hph_wvalid.specs.Checking.{Signature, From, Last, Verdict, Fine, Fault}
 
 abbrev pub Is : Kind → ValType → Type 0
 Is (Known t) u = t ≡ u

@@ -1,3 +1,4 @@
+pub mod Stacks
 pub mod Checking
 pub mod Kinds
 pub mod Spaces

@@ -1,5 +1,7 @@
 -- The rules for what stands outside code (Core Specification 1.0, 3.2 and 3.4) as tests that compute.
-use Rattle.std.specs.Prelude.{ℕ, ◌^◌, List, [], ◌∷◌, length, Bool, true, false, ◌&&◌, if◌then◌else◌, nat_lt, nat_le, nat_eq, Option, Some, None, slice_get}
+use Rattle.std.specs.Prelude.{ℕ, ◌^◌, List, [], ◌∷◌, length, Bool, true, false, not, ◌&&◌, if◌then◌else◌, nat_lt, nat_le, Option, Some, None, slice_get}
+use Rattle.std.specs.List.{list_any}
+use Rattle.std.specs.Str.{bytes_eq}
 use Rattle.hph_wasm.specs.declared.instr.Instr.{Instr, GlobalGet, I32Const, I64Const}
 use Rattle.hph_wasm.specs.declared.types.ValType.{ValType}
 use Rattle.hph_wasm.specs.declared.types.ValType.TheVariants.{I32, I64}
@@ -77,21 +79,14 @@ is_element spaces element = nat_lt element.table (length spaces.tables) && (is_i
 abbrev pub is_segment : Spaces → Segment → Bool
 is_segment spaces segment = nat_lt segment.memory (length spaces.memories) && is_initial spaces.globals I32 segment.offset
 
--- Two names are the same.
-abbrev pub is_same : List ℕ → List ℕ → Bool
-is_same [] [] = true
-is_same (x ∷ xs) (y ∷ ys) = nat_eq x y && is_same xs ys
-is_same _ _ = false
+-- A name that one of the exports has.
+abbrev pub is_named : List ℕ → List Export → Bool
+is_named name exports = list_any (λ export. bytes_eq export.name name) exports
 
--- A name that no export has.
-abbrev pub is_new : List ℕ → List Export → Bool
-is_new name [] = true
-is_new name (export ∷ exports) = if is_same name export.name then false else is_new name exports
-
--- Each name is exported once (3.4.10).
+-- Each name is exported once: none has the name of a later one (3.4.10).
 abbrev pub is_named_once : List Export → Bool
 is_named_once [] = true
-is_named_once (export ∷ exports) = is_new export.name exports && is_named_once exports
+is_named_once (export ∷ exports) = not (is_named export.name exports) && is_named_once exports
 
 -- The types, tables and memories, with what is imported.
 abbrev pub are_types : Module → Spaces → Bool
@@ -102,4 +97,4 @@ are_types m spaces = every is_func_type m.types && (every (λ import. is_import 
 -- The globals, exports and segments.
 abbrev pub are_contents : Module → Spaces → Bool
 are_contents m spaces = every (is_global spaces.imported_globals) m.globals && (every (λ export. is_export spaces export.desc) m.exports &&
-    (is_named_once m.exports && (every (is_element spaces) m.elements && every (is_segment spaces) m.segments)))
+    (every (is_element spaces) m.elements && (every (is_segment spaces) m.segments && is_named_once m.exports)))

@@ -1,19 +1,18 @@
 //! Bodies of functions (Core Specification 1.0, 3.3 and 3.4.1).
-ghost use Rattle.std.specs.Prelude.{◌≡◌, ◌+◌, ◌<◌, ◌^◌, IfOk, OnOk, MatchOption};
+ghost use Rattle.std.specs.Prelude.{◌≡◌, ◌+◌, ◌<◌, ◌^◌, reverse, IfOk, OnOk, MatchOption};
 ghost use Rattle.hph_wasm.specs.Rows.{size, list_size};
 ghost use Rattle.hph_wasm.specs.Validity.{under_label, results_of, IsBody};
 ghost use Rattle.hph_wasm.specs.Faults.{IsFirstFault};
-ghost use Rattle.hph_wvalid.specs.Checking.{nothing, check, check_list, closed_by, first_at_fault, block_verdict, alone_verdict, branches_verdict, outer_scope, Agrees, AgreesBlock};
-ghost use Rattle.hph_wvalid.specs.Spaces.{spaces_of, context_of};
+ghost use Rattle.hph_wvalid.specs.Checking.{nothing, check, check_list, closed_by, first_at_fault, block_verdict, alone_verdict, branches_verdict, Agrees, AgreesBlock};
+ghost use Rattle.hph_wvalid.specs.Spaces.{spaces_of, context_of, IsNumbered};
 
+use crate::plain::check_plain;
 use crate::scope::Scope;
-use crate::signature::{obey, reversed, signature_of};
 use crate::spaces::Spaces;
 use crate::stack::{Stack, ends_with, pop_any, pop_choice, pop_type, push_each};
 use hph_wasm::{BlockType, Func, FuncType, Instr, Module, ValType};
 use sqlite_items::Items;
 use std::alloc::{AllocError, Global};
-use std::collections::LinkedList;
 
 /// A block's results.
 fn results(alloc: Global, ty: BlockType) -> Result<Items<ValType>, AllocError>
@@ -23,6 +22,15 @@ fn results(alloc: Global, ty: BlockType) -> Result<Items<ValType>, AllocError>
         None => Items::from_slice(alloc, &[]),
         Some(ty) => Items::from_slice(alloc, &[ty]),
     }
+}
+
+/// The types in the other order.
+fn reversed(alloc: Global, types: &[ValType]) -> Result<Items<ValType>, AllocError>
+    ensures { IfOk result (λ all. all ≡ reverse types.now) }
+{
+    let mut all = Vec::from_slice(alloc, types)?;
+    all.reverse();
+    Ok(Items::from_vec(all))
 }
 
 /// Counts the opcode of an instruction that is valid.
@@ -43,21 +51,19 @@ fn counted(stack: Option<Stack>, at: &mut usize) -> Option<Stack>
 #[cycle(checks)]
 fn check_all(
     alloc: Global,
-    m: &Module,
-    spaces: &Spaces,
-    scope: &mut Scope,
+    scope: &mut Scope<'_>,
     list: &[Instr],
     stack: Stack,
     at: &mut usize,
 ) -> Result<Option<Stack>, AllocError>
-    requires numbered { spaces.now ≡ spaces_of m.now }
+    requires numbered { IsNumbered scope.old }
     requires room { at.old + list_size list.now < 2 ^ 63 }
-    ensures told { IfOk result (λ o. Agrees (check_list m.now (context_of scope.old) list.now stack) at.old at.new (list_size list.now) o) }
+    ensures told { IfOk result (λ o. Agrees (check_list scope.old.«module».now (context_of scope.old) list.now stack) at.old at.new (list_size list.now) o) }
     ensures same { OnOk result (scope.new ≡ scope.old) }
 {
     let mut stack = stack;
     for instr in list {
-        match check_one(alloc, m, spaces, scope, instr, stack, at)? {
+        match check_one(alloc, scope, instr, stack, at)? {
             None => return Ok(None),
             Some(next) => stack = next,
         }
@@ -69,70 +75,38 @@ fn check_all(
 #[cycle(checks)]
 fn check_one(
     alloc: Global,
-    m: &Module,
-    spaces: &Spaces,
-    scope: &mut Scope,
+    scope: &mut Scope<'_>,
     instr: &Instr,
     stack: Stack,
     at: &mut usize,
 ) -> Result<Option<Stack>, AllocError>
-    requires numbered { spaces.now ≡ spaces_of m.now }
+    requires numbered { IsNumbered scope.old }
     requires room { at.old + size instr.now < 2 ^ 63 }
-    ensures told { IfOk result (λ o. Agrees (check m.now (context_of scope.old) instr.now stack) at.old at.new (size instr.now) o) }
+    ensures told { IfOk result (λ o. Agrees (check scope.old.«module».now (context_of scope.old) instr.now stack) at.old at.new (size instr.now) o) }
     ensures same { OnOk result (scope.new ≡ scope.old) }
 {
     match instr {
         Instr::Block(ty, body) => {
             let label = results(alloc, *ty)?;
-            check_block(
-                alloc,
-                m,
-                spaces,
-                scope,
-                label,
-                *ty,
-                body.as_slice(),
-                stack,
-                at,
-            )
+            check_block(alloc, scope, label, *ty, body.as_slice(), stack, at)
         }
         Instr::Loop(ty, body) => {
             let label = Items::new(alloc);
-            check_block(
-                alloc,
-                m,
-                spaces,
-                scope,
-                label,
-                *ty,
-                body.as_slice(),
-                stack,
-                at,
-            )
+            check_block(alloc, scope, label, *ty, body.as_slice(), stack, at)
         }
         Instr::If(ty, body, other) => match pop_type(ValType::I32, stack) {
             None => Ok(None),
             Some(rest) => match other {
-                None => check_alone(alloc, m, spaces, scope, *ty, body.as_slice(), rest, at),
-                Some(other) => check_branches(
-                    alloc,
-                    m,
-                    spaces,
-                    scope,
-                    *ty,
-                    body.as_slice(),
-                    other.as_slice(),
-                    rest,
-                    at,
-                ),
+                None => check_alone(alloc, scope, *ty, body.as_slice(), rest, at),
+                Some(other) => {
+                    let other = other.as_slice();
+                    check_branches(alloc, scope, *ty, body.as_slice(), other, rest, at)
+                }
             },
         },
         Instr::Drop => Ok(counted(pop_any(stack), at)),
         Instr::Select => Ok(counted(pop_choice(stack)?, at)),
-        _ => {
-            let signature = signature_of(alloc, m, spaces, scope, instr)?;
-            Ok(counted(obey(alloc, signature, stack)?, at))
-        }
+        _ => Ok(counted(check_plain(scope, instr, stack)?, at)),
     }
 }
 
@@ -141,24 +115,22 @@ fn check_one(
 #[tactic(auto, using(crate::proofs::Views::block_well, crate::proofs::Views::block_ill))]
 fn check_block(
     alloc: Global,
-    m: &Module,
-    spaces: &Spaces,
-    scope: &mut Scope,
+    scope: &mut Scope<'_>,
     label: Items<ValType>,
     ty: BlockType,
     body: &[Instr],
     stack: Stack,
     at: &mut usize,
 ) -> Result<Option<Stack>, AllocError>
-    requires numbered { spaces.now ≡ spaces_of m.now }
+    requires numbered { IsNumbered scope.old }
     requires room { at.old + (2 + list_size body.now) < 2 ^ 63 }
-    ensures told { IfOk result (λ o. Agrees (block_verdict m.now (context_of scope.old) label ty body.now stack)
+    ensures told { IfOk result (λ o. Agrees (block_verdict scope.old.«module».now (context_of scope.old) label ty body.now stack)
         at.old at.new (2 + list_size body.now) o) }
     ensures same { OnOk result (scope.new ≡ scope.old) }
 {
     let given = results(alloc, ty)?;
     *at += 1;
-    if check_inside(alloc, m, spaces, scope, label, given.as_slice(), body, at)? {
+    if check_inside(alloc, scope, label, given.as_slice(), body, at)? {
         *at += 1;
         Ok(Some(push_each(given.as_slice(), stack)?))
     } else {
@@ -171,24 +143,22 @@ fn check_block(
 #[tactic(auto, using(crate::proofs::Views::alone_well, crate::proofs::Views::alone_left, crate::proofs::Views::alone_ill))]
 fn check_alone(
     alloc: Global,
-    m: &Module,
-    spaces: &Spaces,
-    scope: &mut Scope,
+    scope: &mut Scope<'_>,
     ty: BlockType,
     body: &[Instr],
     stack: Stack,
     at: &mut usize,
 ) -> Result<Option<Stack>, AllocError>
-    requires numbered { spaces.now ≡ spaces_of m.now }
+    requires numbered { IsNumbered scope.old }
     requires room { at.old + (2 + list_size body.now) < 2 ^ 63 }
-    ensures told { IfOk result (λ o. Agrees (alone_verdict m.now (context_of scope.old) ty body.now stack)
+    ensures told { IfOk result (λ o. Agrees (alone_verdict scope.old.«module».now (context_of scope.old) ty body.now stack)
         at.old at.new (2 + list_size body.now) o) }
     ensures same { OnOk result (scope.new ≡ scope.old) }
 {
     let given = results(alloc, ty)?;
     let label = results(alloc, ty)?;
     *at += 1;
-    if check_inside(alloc, m, spaces, scope, label, given.as_slice(), body, at)? {
+    if check_inside(alloc, scope, label, given.as_slice(), body, at)? {
         if given.is_empty() {
             *at += 1;
             Ok(Some(stack))
@@ -205,18 +175,16 @@ fn check_alone(
 #[tactic(auto, using(crate::proofs::Branches::branches_well, crate::proofs::Branches::other_ill, crate::proofs::Views::branches_ill))]
 fn check_branches(
     alloc: Global,
-    m: &Module,
-    spaces: &Spaces,
-    scope: &mut Scope,
+    scope: &mut Scope<'_>,
     ty: BlockType,
     body: &[Instr],
     other: &[Instr],
     stack: Stack,
     at: &mut usize,
 ) -> Result<Option<Stack>, AllocError>
-    requires numbered { spaces.now ≡ spaces_of m.now }
+    requires numbered { IsNumbered scope.old }
     requires room { at.old + (2 + (list_size body.now + (1 + list_size other.now))) < 2 ^ 63 }
-    ensures told { IfOk result (λ o. Agrees (branches_verdict m.now (context_of scope.old) ty body.now other.now stack)
+    ensures told { IfOk result (λ o. Agrees (branches_verdict scope.old.«module».now (context_of scope.old) ty body.now other.now stack)
         at.old at.new (2 + (list_size body.now + (1 + list_size other.now))) o) }
     ensures same { OnOk result (scope.new ≡ scope.old) }
 {
@@ -224,18 +192,9 @@ fn check_branches(
     let label = results(alloc, ty)?;
     let other_label = results(alloc, ty)?;
     *at += 1;
-    if check_inside(alloc, m, spaces, scope, label, given.as_slice(), body, at)? {
+    if check_inside(alloc, scope, label, given.as_slice(), body, at)? {
         *at += 1;
-        if check_inside(
-            alloc,
-            m,
-            spaces,
-            scope,
-            other_label,
-            given.as_slice(),
-            other,
-            at,
-        )? {
+        if check_inside(alloc, scope, other_label, given.as_slice(), other, at)? {
             *at += 1;
             Ok(Some(push_each(given.as_slice(), stack)?))
         } else {
@@ -248,53 +207,29 @@ fn check_branches(
 
 /// Whether the instructions inside a label are valid, and give just these types.
 #[cycle(checks)]
+#[tactic(auto, using(crate::proofs::Labels::label_entered, crate::proofs::Labels::label_left))]
 fn check_inside(
     alloc: Global,
-    m: &Module,
-    spaces: &Spaces,
-    scope: &mut Scope,
+    scope: &mut Scope<'_>,
     label: Items<ValType>,
     given: &[ValType],
     body: &[Instr],
     at: &mut usize,
 ) -> Result<bool, AllocError>
-    requires numbered { spaces.now ≡ spaces_of m.now }
+    requires numbered { IsNumbered scope.old }
     requires room { at.old + list_size body.now < 2 ^ 63 }
     ensures told { IfOk result (λ ok. AgreesBlock
-        (closed_by 0 (list_size body.now) given.now nothing (check_list m.now (under_label label (context_of scope.old)) body.now nothing))
+        (closed_by 0 (list_size body.now) given.now nothing (check_list scope.old.«module».now (under_label label (context_of scope.old)) body.now nothing))
         at.old at.new (list_size body.now) ok) }
     ensures same { OnOk result (scope.new ≡ scope.old) }
 {
-    scope.labels.push_front(label).map_err(|_| AllocError)?;
-    let empty = Stack {
-        kinds: LinkedList::new(alloc),
-        free: false,
-    };
-    let inner = check_all(alloc, m, spaces, scope, body, empty, at)?;
-    scope.labels.pop_front();
+    scope.labels.push(label)?;
+    let inner = check_all(alloc, scope, body, Stack::new(alloc), at)?;
+    scope.labels.pop();
     match inner {
         None => Ok(false),
-        Some(stack) => {
-            if ends_with(given, stack) {
-                Ok(true)
-            } else {
-                Ok(false)
-            }
-        }
+        Some(stack) => Ok(ends_with(given, stack)),
     }
-}
-
-/// What stands around the outermost label of the function's body.
-fn body_scope(alloc: Global, ty: &FuncType, func: &Func) -> Result<Scope, AllocError>
-    ensures { IfOk result (λ scope. context_of scope ≡ outer_scope ty.now func.now) }
-{
-    let mut locals = Items::from_slice(alloc, ty.params.as_slice())?;
-    locals.append(Items::from_slice(alloc, func.locals.as_slice())?)?;
-    Ok(Scope {
-        locals,
-        labels: LinkedList::new(alloc),
-        result: reversed(alloc, ty.results.as_slice())?,
-    })
 }
 
 /// The number of the first opcode at fault in a function's body; none where the body is valid.
@@ -311,12 +246,16 @@ pub fn first_fault(
 {
     let given = reversed(alloc, ty.results.as_slice())?;
     let label = reversed(alloc, ty.results.as_slice())?;
-    let mut scope = body_scope(alloc, ty, func)?;
+    let mut scope = Scope {
+        module: m,
+        spaces,
+        ty,
+        func,
+        labels: Items::new(alloc),
+    };
     let mut at = 0;
     if check_inside(
         alloc,
-        m,
-        spaces,
         &mut scope,
         label,
         given.as_slice(),

@@ -6,14 +6,19 @@
 #![tactic(auto)]
 
 mod body;
+mod control;
 mod functions;
+mod memory;
+mod numeric;
+mod operands;
 mod outside;
+mod plain;
 mod scope;
-mod signature;
 mod spaces;
 mod stack;
 #[cfg(test)]
 mod tests;
 mod validator;
+mod variables;
 
 pub use validator::{ValidFault, valid};

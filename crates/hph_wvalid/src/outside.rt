@@ -1,12 +1,14 @@
 //! What stands outside code (Core Specification 1.0, 3.2 and 3.4).
-ghost use Rattle.std.specs.Prelude.{◌≡◌, ◌^◌, ◌&&◌, length, nat_lt, nat_le};
-ghost use Rattle.hph_wvalid.specs.Outside.{every, is_func_type, is_max, is_limits, is_import, is_export, constant_type, is_initial, is_global, is_element, is_segment, is_same, is_new, is_named_once, are_types, are_contents};
+ghost use Rattle.std.specs.Prelude.{◌≡◌, ◌^◌, ◌&&◌, length, nat_lt, nat_le, IfOk};
+ghost use Rattle.hph_wvalid.specs.Outside.{every, is_func_type, is_max, is_limits, is_import, is_export, constant_type, is_initial, is_global, is_element, is_segment, is_named_once, are_types, are_contents};
 
 use crate::spaces::Spaces;
 use hph_wasm::{
     Element, Export, ExportDesc, Func, FuncType, Global, GlobalType, Import, ImportDesc, Instr,
     Limits, Module, Segment, ValType,
 };
+use std::alloc::AllocError;
+use std::collections::BTreeSet;
 
 /// The most entries of a table (3.2.3).
 const MOST_ENTRIES: u64 = 4294967296;
@@ -217,37 +219,17 @@ fn are_segments(spaces: &Spaces, segments: &[Segment]) -> bool
     true
 }
 
-/// Whether two names are the same.
-fn are_same(name: &str, other: &str) -> bool
-    ensures { result ≡ is_same name.now other.now }
-{
-    name == other
-}
-
-/// Whether none of the exports has the name.
-fn is_new_name(name: &str, exports: &[Export]) -> bool
-    ensures { result ≡ is_new name.now exports.now }
-{
-    for export in exports {
-        if are_same(name, export.name.as_str()) {
-            return false;
-        }
-    }
-    true
-}
-
 /// Whether each name is exported once (3.4.10).
-fn are_named_once(exports: &[Export]) -> bool
-    ensures { result ≡ is_named_once exports.now }
+fn are_named_once(alloc: std::alloc::Global, exports: &[Export]) -> Result<bool, AllocError>
+    ensures { IfOk result (λ once. once ≡ is_named_once exports.now) }
 {
-    let mut rest = exports;
-    while let [export, others @ ..] = rest {
-        if !is_new_name(export.name.as_str(), others) {
-            return false;
+    let mut names = BTreeSet::new(alloc);
+    for export in exports {
+        if !names.insert(export.name.as_str())? {
+            return Ok(false);
         }
-        rest = others;
     }
-    true
+    Ok(true)
 }
 
 /// Whether the types, tables and memories are valid, with what is imported.
@@ -265,12 +247,20 @@ pub fn has_types(m: &Module, spaces: &Spaces) -> bool
 }
 
 /// Whether the globals, exports and segments are valid.
-pub fn has_contents(m: &Module, spaces: &Spaces) -> bool
-    ensures { result ≡ are_contents m.now spaces.now }
+pub fn has_contents(
+    alloc: std::alloc::Global,
+    m: &Module,
+    spaces: &Spaces,
+) -> Result<bool, AllocError>
+    ensures { IfOk result (λ valid. valid ≡ are_contents m.now spaces.now) }
 {
-    are_globals(spaces.imported_globals.as_slice(), m.globals.as_slice())
+    if are_globals(spaces.imported_globals.as_slice(), m.globals.as_slice())
         && are_exports(spaces, m.exports.as_slice())
-        && are_named_once(m.exports.as_slice())
         && are_elements(spaces, m.elements.as_slice())
         && are_segments(spaces, m.segments.as_slice())
+    {
+        are_named_once(alloc, m.exports.as_slice())
+    } else {
+        Ok(false)
+    }
 }

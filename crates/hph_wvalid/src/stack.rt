@@ -1,12 +1,12 @@
 //! The stack of kinds (Core Specification 1.0, appendix A.3).
-ghost use Rattle.std.specs.Prelude.{◌≡◌, ◌∷◌, IfOk, None, Some};
+ghost use Rattle.std.specs.Prelude.{◌≡◌, ◌∷◌, IfOk, OnOk, None, Some};
 ghost use Rattle.hph_wasm.specs.declared.types.ValType.TheVariants.{I32};
 ghost use Rattle.hph_wasm.specs.Choice.{if_some};
-ghost use Rattle.hph_wvalid.specs.Checking.{pop, pops, push_all, ends, drop_of, select_of, selected_of};
+ghost use Rattle.hph_wvalid.specs.Checking.{nothing, anything, is_nil, popped, pop, pops, push_all, ends, drop_of, select_of, selected_of};
 
 use hph_wasm::ValType;
-use std::alloc::AllocError;
-use std::collections::LinkedList;
+use std::alloc::{AllocError, Global};
+use std::marker::Model;
 
 /// What is known of a value on the stack: its type, or nothing in code that is never reached.
 #[derive(Clone, Copy, PartialEq, Eq, Debug)]
@@ -15,19 +15,81 @@ pub enum Kind {
     Any,
 }
 
-/// The kinds of the values of a block, the last one first. Behind an instruction that never goes on there is anything below them.
+/// The kinds of the values of a block. Behind an instruction that never goes on there is anything below them. Contracts see the
+/// last one first.
 #[derive(Drop)]
 pub struct Stack {
-    pub kinds: LinkedList<Kind>,
-    pub free: bool,
+    kinds: Vec<Kind>,
+    free: bool,
+}
+
+impl Model for Stack {
+    ghost use Rattle.std.specs.Prelude.{reverse};
+    ghost use Rattle.hph_wvalid.specs.Stacks as seen;
+
+    ghost Value = { seen.Stack };
+
+    ghost view = { λ s. record { kinds = reverse s.kinds.items; free = s.free } };
+}
+
+impl Stack {
+    /// No values.
+    pub fn new(alloc: Global) -> Stack
+        ensures { result ≡ nothing }
+    {
+        Stack {
+            kinds: Vec::new(alloc),
+            free: false,
+        }
+    }
+
+    /// Whether there are no values whose kinds are known.
+    #[tactic(auto, using(crate::proofs::Turned::none_turned))]
+    pub fn is_empty(&self) -> bool
+        ensures { result ≡ is_nil self.now.kinds }
+    {
+        self.kinds.is_empty()
+    }
+
+    /// Whether there is anything below the values.
+    pub fn is_free(&self) -> bool
+        ensures { result ≡ self.now.free }
+    {
+        self.free
+    }
+
+    /// The kind of the last value, which is taken.
+    fn pop(&mut self) -> Option<Kind>
+        ensures last { popped self.old.kinds ≡ (result, self.new.kinds) }
+        ensures free { self.new.free ≡ self.old.free }
+    {
+        self.kinds.pop()
+    }
+
+    /// Gives a value of the kind.
+    #[tactic(auto, using(crate::proofs::Turned::more_turned))]
+    pub fn push(&mut self, kind: Kind) -> Result<(), AllocError>
+        ensures { OnOk result (self.new ≡ record { kinds = kind ∷ self.old.kinds; free = self.old.free }) }
+    {
+        self.kinds.push(kind)?;
+        Ok(())
+    }
+
+    /// What is behind an instruction that never goes on: anything.
+    pub fn forget(&mut self)
+        ensures { self.new ≡ anything }
+    {
+        self.kinds.clear();
+        self.free = true;
+    }
 }
 
 /// Takes a value of the type; none where there is none on top.
 pub fn pop_type(ty: ValType, mut stack: Stack) -> Option<Stack>
     ensures { result ≡ pop ty stack }
 {
-    match stack.kinds.pop_front() {
-        None if stack.free => Some(stack),
+    match stack.pop() {
+        None if stack.is_free() => Some(stack),
         None => None,
         Some(Kind::Any) => Some(stack),
         Some(Kind::Known(other)) if ty == other => Some(stack),
@@ -54,10 +116,7 @@ pub fn push_each(types: &[ValType], stack: Stack) -> Result<Stack, AllocError>
         [] => Ok(stack),
         [first, rest @ ..] => {
             let mut stack = push_each(rest, stack)?;
-            stack
-                .kinds
-                .push_front(Kind::Known(*first))
-                .map_err(AllocError::from)?;
+            stack.push(Kind::Known(*first))?;
             Ok(stack)
         }
     }
@@ -69,7 +128,7 @@ pub fn ends_with(types: &[ValType], stack: Stack) -> bool
 {
     match pop_all(types, stack) {
         None => false,
-        Some(stack) => stack.kinds.is_empty(),
+        Some(stack) => stack.is_empty(),
     }
 }
 
@@ -77,8 +136,8 @@ pub fn ends_with(types: &[ValType], stack: Stack) -> bool
 pub fn pop_any(mut stack: Stack) -> Option<Stack>
     ensures { result ≡ drop_of stack.kinds stack.free }
 {
-    match stack.kinds.pop_front() {
-        None if stack.free => Some(stack),
+    match stack.pop() {
+        None if stack.is_free() => Some(stack),
         None => None,
         Some(_) => Some(stack),
     }
@@ -98,8 +157,8 @@ pub fn pop_choice(stack: Stack) -> Result<Option<Stack>, AllocError>
 fn merge_two(mut stack: Stack) -> Result<Option<Stack>, AllocError>
     ensures { IfOk result (λ s. s ≡ select_of stack.kinds stack.free) }
 {
-    match stack.kinds.pop_front() {
-        None if stack.free => give(Kind::Any, stack),
+    match stack.pop() {
+        None if stack.is_free() => give(Kind::Any, stack),
         None => Ok(None),
         Some(first) => merge_with(first, stack),
     }
@@ -109,8 +168,8 @@ fn merge_two(mut stack: Stack) -> Result<Option<Stack>, AllocError>
 fn merge_with(first: Kind, mut stack: Stack) -> Result<Option<Stack>, AllocError>
     ensures { IfOk result (λ s. s ≡ selected_of first stack.kinds stack.free) }
 {
-    match stack.kinds.pop_front() {
-        None if stack.free => give(first, stack),
+    match stack.pop() {
+        None if stack.is_free() => give(first, stack),
         None => Ok(None),
         Some(second) => match first {
             Kind::Any => give(second, stack),
@@ -126,6 +185,6 @@ fn merge_with(first: Kind, mut stack: Stack) -> Result<Option<Stack>, AllocError
 fn give(kind: Kind, mut stack: Stack) -> Result<Option<Stack>, AllocError>
     ensures { IfOk result (λ s. s ≡ Some (record { kinds = kind ∷ stack.kinds; free = stack.free })) }
 {
-    stack.kinds.push_front(kind).map_err(AllocError::from)?;
+    stack.push(kind)?;
     Ok(Some(stack))
 }

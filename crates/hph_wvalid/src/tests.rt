@@ -10,7 +10,9 @@ ghost use Rattle.hph_wasm.specs.Spelling.{spelling};
 mod text;
 
 use crate::validator::{ValidFault, decide, valid};
-use hph_wasm::{Binary, Export, ExportDesc, Func, FuncType, Instr, Module, Name, Sign, ValType};
+use hph_wasm::{
+    Binary, Export, ExportDesc, Func, FuncType, Instr, Locals, Module, Name, Sign, ValType,
+};
 use sqlite_items::Items;
 use std::alloc::{AllocError, Global};
 use std::process::Abort;
@@ -492,7 +494,7 @@ fn main_of(alloc: Global, body: Items<Instr>) -> Result<Module, AllocError>
     };
     let func = Func {
         ty: 0,
-        locals: Items::new(alloc),
+        locals: Locals::new(alloc),
         body,
     };
     let export = Export {

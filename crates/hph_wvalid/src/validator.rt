@@ -39,11 +39,15 @@ impl From<AllocError> for ValidFault {
 }
 
 /// Whether what stands outside code is valid.
-fn is_valid_outside(m: &Module, spaces: &Spaces) -> bool
+fn is_valid_outside(alloc: Global, m: &Module, spaces: &Spaces) -> Result<bool, AllocError>
     requires numbered { spaces.now ≡ spaces_of m.now }
-    ensures { IsTrue result ↔ IsValidOutside m.now }
+    ensures { IfOk result (λ valid. IsTrue valid ↔ IsValidOutside m.now) }
 {
-    has_types(m, spaces) && has_contents(m, spaces)
+    if has_types(m, spaces) {
+        has_contents(alloc, m, spaces)
+    } else {
+        Ok(false)
+    }
 }
 
 /// Whether the module is valid; if not, its first fault. Functions and the opcodes of each body are to be few enough for a place.
@@ -54,7 +58,7 @@ pub(crate) fn decide(alloc: Global, m: &Module) -> Result<(), ValidFault>
     ensures invalid { IfErr result (IsFaultIn m.now) }
 {
     let spaces = index_spaces(alloc, m)?;
-    if is_valid_outside(m, &spaces) {
+    if is_valid_outside(alloc, m, &spaces)? {
         match first_invalid(alloc, m, &spaces)? {
             None => Ok(()),
             Some((func, instr)) => Err(ValidFault::Invalid(func, instr)),

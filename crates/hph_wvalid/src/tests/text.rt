@@ -2,8 +2,8 @@
 //! folded, nothing has an identifier, and parentheses are not read.
 use hph_wasm::{
     Binary, BlockType, Comparison, Element, Export, ExportDesc, Func, FuncType, GlobalType, Import,
-    ImportDesc, Instr, Limits, MemArg, Module, Name, NarrowLoad, NarrowStore, Segment, Sign, Unary,
-    ValType,
+    ImportDesc, Instr, Limits, Locals, MemArg, Module, Name, NarrowLoad, NarrowStore, Segment,
+    Sign, Unary, ValType,
 };
 use sqlite_items::Items;
 use std::alloc::{AllocError, Global};
@@ -163,6 +163,17 @@ impl<'a> Words<'a> {
             }
         }
         Ok(Items::from_vec(types))
+    }
+
+    fn locals(&mut self, alloc: Global) -> Result<Locals, AllocError> {
+        let types = self.val_types(alloc, "local")?;
+        let mut locals = Locals::new(alloc);
+        for ty in types.as_slice() {
+            if locals.len() < u32::MAX {
+                locals.push_run(1, *ty)?;
+            }
+        }
+        Ok(locals)
     }
 
     fn limits(&mut self) -> Option<Limits> {
@@ -343,7 +354,7 @@ impl<'a> Words<'a> {
         let Some(ty) = self.number() else {
             return Ok(false);
         };
-        let locals = self.val_types(alloc, "local")?;
+        let locals = self.locals(alloc)?;
         let body = self.instrs(alloc, 8)?;
         m.funcs.push(Func { ty, locals, body })?;
         Ok(true)

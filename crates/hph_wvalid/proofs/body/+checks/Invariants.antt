@@ -24,7 +24,7 @@ decreases-check_inside l = 2 * list_size l.body.now + 2
 
 abbrev pub invariant-check_all-loop-instr : goal.invariant-check_all-loop-instr
 invariant-check_all-loop-instr l = record {
-  behind : IsBehind l.m (context_of l.fn.scope) l.list l.fn.stack l.instr-index l.stack;
+  behind : IsBehind l.fn.scope.«module».now (context_of l.fn.scope) l.list l.fn.stack l.instr-index l.stack;
   counted : l.at ≡ l.fn.at + list_size (take l.instr-index l.list);
   same : l.scope ≡ l.fn.scope;
 }
