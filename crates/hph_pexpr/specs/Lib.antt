@@ -1,11 +1,2 @@
-pub mod Endings
-pub mod NestingLaws
-pub mod Lists
-pub mod Arrays
-pub mod Strings
-pub mod Classes
-pub mod Primaries
-pub mod Postfix
-pub mod Terms
-pub mod Climb
-pub mod Parser
+pub mod Nests
+pub mod Results

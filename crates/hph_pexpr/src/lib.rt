@@ -1,18 +1,24 @@
 //! Expressions from tokens (PHP manual, Expressions).
 //!
-//! specs/ has the parser as functions on lists of tokens, a file for each part of the grammar, with what is nested one
-//! deeper as a parameter. It reads what the grammar of the library of trees says, and nothing else: the laws of
-//! src/laws.rt, which the parser of statements stands on too.
+//! Each function does what one of the functions on lists of tokens does, with what is nested one deeper as a parameter.
 #![tactic(auto)]
 
-mod elements;
-mod form;
-mod laws;
-mod turn;
+mod arrays;
+mod branches;
+mod climb;
+mod grammar;
+mod lists;
+mod members;
+mod parser;
+mod path_test;
+mod postfix;
+mod primaries;
+mod public;
+mod strings;
+mod targets;
+mod terms;
+mod written;
 
-pub use elements::Elements;
-pub use form::Form;
-pub use laws::{
-    one_expression, parser_is_complete, parser_is_sound, paths_are_read, targets_are_read,
-};
-pub use turn::Turn;
+pub use parser::{nested, nested_elements, nested_paths};
+pub use path_test::PathTest;
+pub use public::expr;

@@ -1,14 +1,2 @@
-pub mod Tools
-pub mod Words
-pub mod Repeats
-pub mod DeclarationsSound
-pub mod StatementsSound
-pub mod MembersSound
-pub mod ExpressionShorter
-pub mod Shorter
-pub mod Firsts
-pub mod DeclarationsComplete
-pub mod StatementsComplete
-pub mod MembersComplete
-pub mod Completeness
-pub mod BothWays
+pub mod Braces
+pub mod Files

@@ -1,6 +1,3 @@
-pub mod Words
-pub mod Repeats
-pub mod Declarations
-pub mod Statements
-pub mod Parser
-pub mod Laws
+pub mod Braces
+pub mod Nests
+pub mod Public

@@ -1,9 +1,19 @@
 //! Statements, functions, classes and files from tokens (PHP manual, Control Structures, Functions, Classes and Objects).
 //!
-//! specs/ has the parser as functions on lists of tokens, over the parser of expressions. It reads what the grammar of the
-//! library of trees says, and nothing else: the laws of src/laws.rt.
+//! Each function does what one of the functions on lists of tokens does, over a parser of expressions of the caller's.
 #![tactic(auto)]
 
-mod laws;
+mod branches;
+mod classes;
+mod error;
+mod file;
+mod functions;
+mod grammar;
+mod loops;
+mod parser;
+mod statement;
+mod switch;
 
-pub use laws::{files_are_read, one_file, one_statement, statements_are_read};
+pub use error::TreeFault;
+pub use file::parse_with;
+pub use parser::parse;

@@ -1,0 +1,14 @@
+pub mod Tools
+pub mod Keywords
+pub mod Repeats
+pub mod DeclarationsSound
+pub mod StatementsSound
+pub mod MembersSound
+pub mod ExpressionShorter
+pub mod Shorter
+pub mod Firsts
+pub mod DeclarationsComplete
+pub mod StatementsComplete
+pub mod MembersComplete
+pub mod Completeness
+pub mod BothWays

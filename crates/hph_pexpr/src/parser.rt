@@ -1,0 +1,82 @@
+//! The parser of expressions, to a depth.
+
+ghost use Rattle.hph_cursor.specs.Reads.{Reads};
+ghost use Rattle.hph_fexpr.specs.Arrays as arrays;
+ghost use Rattle.hph_fexpr.specs.Lists as lists;
+ghost use Rattle.hph_pexpr.specs.Nests.{Nests, passes};
+ghost use Rattle.hph_fexpr.specs.Parser as spec;
+ghost use Rattle.hph_fexpr.specs.Parser.{parse};
+
+use crate::grammar::Grammar;
+use crate::path_test::PathTest;
+use hph_ast::{At, Expr, Mark};
+use hph_cursor::{Cursor, ParseFault};
+use hph_fexpr::{Elements, Form};
+use sqlite_items::Items;
+use std::alloc::Global;
+
+impl<F: Fn(Global, &mut Cursor<'_>, usize, Form) -> Result<Expr, ParseFault>> Grammar<F> {
+    fn one_form(&self, cursor: &mut Cursor<'_>, form: Form) -> Result<Expr, ParseFault>
+        requires { Nests self.now.depth (F.pre self.now.nested) (F.post self.now.nested) }
+        ensures { Reads (spec.one_form (parse self.now.depth) form cursor.old) result cursor.new }
+    {
+        match form {
+            Form::Level(least) => self.one_level(cursor, least),
+            Form::Postfix => self.postfix(cursor),
+        }
+    }
+}
+
+/// An expression of a form, which nests no deeper than `depth`, from the tokens at the cursor; what follows it is left.
+pub fn nested(
+    alloc: Global,
+    cursor: &mut Cursor<'_>,
+    depth: usize,
+    form: Form,
+) -> Result<Expr, ParseFault>
+    ensures { Reads (parse depth form cursor.old) result cursor.new }
+{
+    if depth == 0 {
+        return Err(cursor.refuse());
+    }
+    Grammar {
+        alloc,
+        depth: depth - 1,
+        nested,
+    }
+    .one_form(cursor, form)
+}
+
+/// Paths behind `(`, which nest no deeper than `depth`, and the place of the `)` behind them.
+pub fn nested_paths(
+    alloc: Global,
+    cursor: &mut Cursor<'_>,
+    depth: usize,
+    test: PathTest,
+) -> Result<(Items<Expr>, At), ParseFault>
+    ensures { Reads (lists.paths (parse depth) (passes test) cursor.old) result cursor.new }
+{
+    Grammar {
+        alloc,
+        depth,
+        nested,
+    }
+    .paths(cursor, test)
+}
+
+/// Elements and holes behind the bracket that opens, which nest no deeper than `depth`, up to the one that closes.
+pub fn nested_elements(
+    alloc: Global,
+    cursor: &mut Cursor<'_>,
+    depth: usize,
+    closing: Mark,
+) -> Result<Elements, ParseFault>
+    ensures { Reads (arrays.elements (parse depth) closing cursor.old) result cursor.new }
+{
+    Grammar {
+        alloc,
+        depth,
+        nested,
+    }
+    .elements(cursor, closing)
+}

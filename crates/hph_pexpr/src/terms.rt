@@ -1,0 +1,116 @@
+//! Terms: destructuring, prefix operators, and `++` and `--` before a path.
+
+ghost use Rattle.hph_cursor.specs.Reads.{Reads, ReadsAs};
+ghost use Rattle.hph_pexpr.specs.Nests.{Nests, passes};
+ghost use Rattle.hph_fexpr.specs.Parser.{parse};
+ghost use Rattle.hph_fexpr.specs.Terms as spec;
+
+use crate::grammar::Grammar;
+use crate::primaries::array_of;
+use hph_ast::{ArrayForm, Expr, Mark, Prefix, Token, Update};
+use hph_cursor::nodes::{destructure_of, pre_update_of, prefix_of};
+use hph_cursor::{Cursor, ParseFault, is_written, on, prefix_level};
+use hph_fexpr::{Elements, Form};
+use std::alloc::Global;
+
+const UPDATE_LEVEL: u8 = 21;
+
+pub const ASSIGN_LEVEL: u8 = 5;
+
+impl<F: Fn(Global, &mut Cursor<'_>, usize, Form) -> Result<Expr, ParseFault>> Grammar<F> {
+    #[tactic(auto, unfolding(hph_fexpr::specs::Terms::prefixed))]
+    fn prefixed(&self, cursor: &mut Cursor<'_>, operator: Prefix) -> Result<Expr, ParseFault>
+        requires { Nests self.now.depth (F.pre self.now.nested) (F.post self.now.nested) }
+        ensures { Reads (spec.prefixed (parse self.now.depth) operator cursor.old) result cursor.new }
+    {
+        let first = cursor.take()?;
+        let operand = self.level(cursor, prefix_level(operator) + 1)?;
+        Ok(prefix_of(self.alloc, on(first), operator, operand)?)
+    }
+
+    /// `++` or `--` before a path.
+    #[tactic(auto, unfolding(hph_fexpr::specs::Terms::pre_updated))]
+    fn pre_updated(&self, cursor: &mut Cursor<'_>, form: Update) -> Result<Expr, ParseFault>
+        requires { Nests self.now.depth (F.pre self.now.nested) (F.post self.now.nested) }
+        ensures { Reads (spec.pre_updated (parse self.now.depth) form cursor.old) result cursor.new }
+    {
+        let first = cursor.take()?;
+        let path = self.postfix(cursor)?;
+        if !is_written(&path) || cursor.binds() > UPDATE_LEVEL {
+            return Err(cursor.refuse());
+        }
+        Ok(pre_update_of(self.alloc, on(first), form, path)?)
+    }
+
+    /// At `=`.
+    #[tactic(auto, unfolding(hph_fexpr::specs::Terms::destructured))]
+    fn destructured(
+        &self,
+        cursor: &mut Cursor<'_>,
+        opening: &Token,
+        found: Elements,
+    ) -> Result<Expr, ParseFault>
+        requires { Nests self.now.depth (F.pre self.now.nested) (F.post self.now.nested) }
+        ensures { Reads (spec.destructured (parse self.now.depth) opening.now found cursor.old) result cursor.new }
+    {
+        cursor.take()?;
+        let value = self.level(cursor, ASSIGN_LEVEL + 1)?;
+        Ok(destructure_of(self.alloc, on(opening), found.items, value)?)
+    }
+
+    #[tactic(auto, unfolding(hph_fexpr::specs::Terms::from_array))]
+    fn from_array(
+        &self,
+        cursor: &mut Cursor<'_>,
+        opening: &Token,
+        found: Elements,
+    ) -> Result<Expr, ParseFault>
+        requires { Nests self.now.depth (F.pre self.now.nested) (F.post self.now.nested) }
+        ensures { Reads (spec.from_array (parse self.now.depth) opening.now found cursor.old) result cursor.new }
+    {
+        let array = array_of(cursor, opening, ArrayForm::Short, found)?;
+        let path = self.goes_on(cursor, array)?;
+        self.path_used(cursor, path)
+    }
+
+    /// An array, or the left side of a destructuring.
+    #[tactic(auto, unfolding(hph_fexpr::specs::Terms::bracketed))]
+    fn bracketed(&self, cursor: &mut Cursor<'_>) -> Result<Expr, ParseFault>
+        requires { Nests self.now.depth (F.pre self.now.nested) (F.post self.now.nested) }
+        ensures { Reads (spec.bracketed (parse self.now.depth) cursor.old) result cursor.new }
+    {
+        let opening = cursor.take()?;
+        let found = self.elements(cursor, Mark::CloseBracket)?;
+        if cursor.sees_set() {
+            self.destructured(cursor, opening, found)
+        } else {
+            self.from_array(cursor, opening, found)
+        }
+    }
+
+    fn operand(&self, cursor: &mut Cursor<'_>) -> Result<Expr, ParseFault>
+        requires { Nests self.now.depth (F.pre self.now.nested) (F.post self.now.nested) }
+        ensures { Reads (spec.operand (parse self.now.depth) cursor.old) result cursor.new }
+    {
+        if cursor.sees(Mark::OpenBracket) {
+            return self.bracketed(cursor);
+        }
+        let path = self.postfix(cursor)?;
+        self.path_used(cursor, path)
+    }
+
+    /// What may stand at either side of an operator.
+    #[tactic(auto, unfolding(hph_fexpr::specs::Terms::term))]
+    pub fn term(&self, cursor: &mut Cursor<'_>) -> Result<Expr, ParseFault>
+        requires { Nests self.now.depth (F.pre self.now.nested) (F.post self.now.nested) }
+        ensures { Reads (spec.term (parse self.now.depth) cursor.old) result cursor.new }
+    {
+        if let Some(operator) = cursor.prefix() {
+            return self.prefixed(cursor, operator);
+        }
+        if let Some(form) = cursor.pre_update() {
+            return self.pre_updated(cursor, form);
+        }
+        self.operand(cursor)
+    }
+}

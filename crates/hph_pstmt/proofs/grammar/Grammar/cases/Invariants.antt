@@ -1,0 +1,10 @@
+use Rattle.std.proofs.Common.{◌≡◌, ◌-◌, length, []}
+use Rattle.hph_fstmt.specs.Repeats as repeats
+use Rattle.hph_fstmt.specs.Statements as statements
+use Rattle.hph_fstmt.specs.Parser as spec
+use Rattle.hph_ast.specs.declared.token.Mark.TheVariants.{CloseBrace}
+use Rattle.hph_cursor.specs.Steps as steps
+use Rattle.hph_pstmt.proofs.grammar.Grammar.cases.Given as goal
+
+abbrev pub invariant-loop-turn : goal.invariant-loop-turn
+invariant-loop-turn g l = repeats.many_from (steps.is_mark CloseBrace) (statements.case spec.expressions (spec.nested l.self.depth)) (length l.fn.cursor) [] l.fn.cursor ≡ repeats.many_from (steps.is_mark CloseBrace) (statements.case spec.expressions (spec.nested l.self.depth)) (l._turn-end - l._turn) l.found l.cursor

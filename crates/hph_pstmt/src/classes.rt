@@ -1,0 +1,201 @@
+//! Classes and their members (PHP manual, Classes and Objects).
+
+ghost use Rattle.hph_ast.specs.declared.token.Mark.TheVariants.{CloseBrace};
+ghost use Rattle.hph_cursor.specs.Reads.{Reads};
+ghost use Rattle.hph_cursor.specs.Steps as steps;
+ghost use Rattle.hph_cursor.specs.Steps.{and_then, take_token};
+ghost use Rattle.hph_fstmt.specs.Parser as spec;
+ghost use Rattle.hph_fstmt.specs.Repeats as repeats;
+ghost use Rattle.hph_fstmt.specs.Statements as statements;
+ghost use Rattle.hph_pstmt.specs.Nests.{Nests};
+
+use crate::grammar::Grammar;
+use hph_ast::{At, Class, Identifier, Keyword, Mark, Member, Modifiers, Statement, Token};
+use hph_cursor::{Cursor, ParseFault, on, span};
+use hph_parts::Expressions;
+use hph_parts::ends::ends_braces;
+use hph_parts::modifiers::{has_modifier, modifiers};
+use hph_parts::places::function_place;
+use hph_parts::types::maybe_type;
+use hph_parts::words::{here, name, sees_keyword};
+use sqlite_items::Items;
+use std::alloc::Global;
+
+/// The name of the parent class, if there is one.
+#[tactic(auto, unfolding(hph_fstmt::specs::Statements::extends))]
+fn extends(alloc: Global, cursor: &mut Cursor<'_>) -> Result<Option<Identifier>, ParseFault>
+    ensures { Reads (statements.extends cursor.old) result cursor.new }
+{
+    if !sees_keyword(cursor, Keyword::Extends) {
+        return Ok(None);
+    }
+    cursor.take()?;
+    let parent = name(alloc, cursor)?;
+    Ok(Some(parent))
+}
+
+/// What stands before the members of a class.
+#[derive(Drop)]
+pub struct ClassHead {
+    pub name: Identifier,
+    pub parent: Option<Identifier>,
+}
+
+impl<
+    E: Expressions + Copy,
+    S: Fn(Global, E, &mut Cursor<'_>, usize) -> Result<Statement, ParseFault>,
+> Grammar<E, S> {
+    /// Behind `const`.
+    #[tactic(auto, unfolding(hph_fstmt::specs::Statements::class_constants))]
+    fn class_constants(
+        &self,
+        cursor: &mut Cursor<'_>,
+        at: At,
+        modifiers: Modifiers,
+    ) -> Result<Member, ParseFault>
+        requires { Nests self.now.depth (S.pre self.now.statement) (S.post self.now.statement) }
+        ensures { Reads (statements.class_constants spec.expressions (spec.nested self.now.depth) at modifiers cursor.old) result cursor.new }
+    {
+        let (items, close) = self.parts.constant_items(cursor)?;
+        Ok(Member::Constants {
+            at: span(at, on(close)),
+            modifiers,
+            items,
+        })
+    }
+
+    #[tactic(auto, unfolding(hph_fstmt::specs::Statements::properties))]
+    fn properties(
+        &self,
+        cursor: &mut Cursor<'_>,
+        at: At,
+        modifiers: Modifiers,
+    ) -> Result<Member, ParseFault>
+        requires { Nests self.now.depth (S.pre self.now.statement) (S.post self.now.statement) }
+        ensures { Reads (statements.properties spec.expressions (spec.nested self.now.depth) at modifiers cursor.old) result cursor.new }
+    {
+        let ty = maybe_type(self.parts.alloc, cursor)?;
+        let (items, close) = self.parts.property_items(cursor)?;
+        Ok(Member::Properties {
+            at: span(at, on(close)),
+            modifiers,
+            ty,
+            items,
+        })
+    }
+
+    /// At `function`.
+    #[tactic(auto, unfolding(hph_fstmt::specs::Statements::method))]
+    fn method(
+        &self,
+        cursor: &mut Cursor<'_>,
+        at: At,
+        modifiers: Modifiers,
+    ) -> Result<Member, ParseFault>
+        requires { Nests self.now.depth (S.pre self.now.statement) (S.post self.now.statement) }
+        ensures { Reads (statements.method spec.expressions (spec.nested self.now.depth) at modifiers cursor.old) result cursor.new }
+    {
+        let function = self.function(cursor)?;
+        Ok(Member::Method {
+            at: span(at, function_place(&function)),
+            modifiers,
+            function,
+        })
+    }
+
+    /// Behind the modifiers: constants are without `static`, and properties have a modifier.
+    #[tactic(auto, unfolding(hph_fstmt::specs::Statements::member_of))]
+    fn member_of(
+        &self,
+        cursor: &mut Cursor<'_>,
+        at: At,
+        modifiers: Modifiers,
+    ) -> Result<Member, ParseFault>
+        requires { Nests self.now.depth (S.pre self.now.statement) (S.post self.now.statement) }
+        ensures { Reads (statements.member_of spec.expressions (spec.nested self.now.depth) at modifiers cursor.old) result cursor.new }
+    {
+        if sees_keyword(cursor, Keyword::Const) {
+            if modifiers.is_static {
+                return Err(cursor.refuse());
+            }
+            cursor.take()?;
+            return self.class_constants(cursor, at, modifiers);
+        }
+        if sees_keyword(cursor, Keyword::Function) {
+            return self.method(cursor, at, modifiers);
+        }
+        if !has_modifier(modifiers) {
+            return Err(cursor.refuse());
+        }
+        self.properties(cursor, at, modifiers)
+    }
+
+    #[tactic(auto, unfolding(hph_fstmt::specs::Statements::member_from))]
+    fn member_from(&self, cursor: &mut Cursor<'_>, at: At) -> Result<Member, ParseFault>
+        requires { Nests self.now.depth (S.pre self.now.statement) (S.post self.now.statement) }
+        ensures { Reads (statements.member_from spec.expressions (spec.nested self.now.depth) at cursor.old) result cursor.new }
+    {
+        let modifiers = modifiers(cursor)?;
+        self.member_of(cursor, at, modifiers)
+    }
+
+    #[tactic(auto, unfolding(hph_fstmt::specs::Statements::class_member))]
+    fn member(&self, cursor: &mut Cursor<'_>) -> Result<Member, ParseFault>
+        requires { Nests self.now.depth (S.pre self.now.statement) (S.post self.now.statement) }
+        ensures { Reads (statements.class_member spec.expressions (spec.nested self.now.depth) cursor.old) result cursor.new }
+    {
+        let at = here(cursor)?;
+        self.member_from(cursor, at)
+    }
+
+    fn members(&self, cursor: &mut Cursor<'_>) -> Result<Items<Member>, ParseFault>
+        requires { Nests self.now.depth (S.pre self.now.statement) (S.post self.now.statement) }
+        ensures { Reads (repeats.many (steps.is_mark CloseBrace) (statements.class_member spec.expressions (spec.nested self.now.depth)) cursor.old) result cursor.new }
+    {
+        let mut found = Items::new(self.parts.alloc);
+        for _turn in 0..cursor.left() {
+            if ends_braces(cursor) {
+                return Ok(found);
+            }
+            found.push(self.member(cursor)?)?;
+        }
+        if !ends_braces(cursor) {
+            return Err(cursor.refuse());
+        }
+        Ok(found)
+    }
+
+    #[tactic(auto, unfolding(hph_fstmt::specs::Statements::class_body))]
+    fn class_body(
+        &self,
+        cursor: &mut Cursor<'_>,
+        token: &Token,
+        head: ClassHead,
+    ) -> Result<Class, ParseFault>
+        requires { Nests self.now.depth (S.pre self.now.statement) (S.post self.now.statement) }
+        ensures { Reads (statements.class_body spec.expressions (spec.nested self.now.depth) token.now head.name head.parent cursor.old) result cursor.new }
+    {
+        cursor.expect(Mark::OpenBrace)?;
+        let members = self.members(cursor)?;
+        let close = cursor.expect(Mark::CloseBrace)?;
+        let ClassHead { name, parent } = head;
+        Ok(Class {
+            at: span(on(token), on(close)),
+            name,
+            parent,
+            members,
+        })
+    }
+
+    /// At `class`.
+    #[tactic(auto, unfolding(hph_fstmt::specs::Statements::class_from))]
+    pub fn class(&self, cursor: &mut Cursor<'_>) -> Result<Class, ParseFault>
+        requires { Nests self.now.depth (S.pre self.now.statement) (S.post self.now.statement) }
+        ensures { Reads (and_then (take_token cursor.old) (statements.class_from spec.expressions (spec.nested self.now.depth))) result cursor.new }
+    {
+        let token = cursor.take()?;
+        let name = name(self.parts.alloc, cursor)?;
+        let parent = extends(self.parts.alloc, cursor)?;
+        self.class_body(cursor, token, ClassHead { name, parent })
+    }
+}
