@@ -1,4 +1,6 @@
 pub mod Words
+pub mod Names
 pub mod Lines
+pub mod Sources
 pub mod Headline
 pub mod Answers

@@ -1,12 +1,14 @@
 ghost use Rattle.std.specs.Prelude.{◌≡◌, ◌≤◌, IfOk, IfErr, IfSome, length};
 ghost use Rattle.hph_src.specs.Faults.{HasRisen};
 ghost use Rattle.hph_src.specs.Files.{file_at};
-ghost use Rattle.hph_echo.specs.EchoFile.{IsReason};
 ghost use Rattle.hph_drive.specs.Headline.{CompilesTo};
 ghost use Rattle.hph_drive.specs.Answers.{SaysOfFile, NamesFile, LeavesAlone, SaysOfPut, file_limit};
+ghost use Rattle.hph_drive.specs.Sources.{IsFaultOf};
 
-use crate::{LimitName, Refusal, Status, Text};
-use hph_echo::EchoError;
+use crate::Status;
+use crate::fault::SourceFault;
+use hph_ast::{LimitName, Refusal};
+use hph_size::{texts_are_nodes, texts_are_short};
 use hph_src::{PutAnswer, ReadAnswer, Sink, Tree};
 use std::alloc::Global;
 
@@ -22,31 +24,35 @@ pub fn build<T: Tree, O: Sink>(alloc: Global, path: &str, tree: &mut T, out: &mu
     ensures write_fault { result ≡ Status.WriteFault → HasRisen (O.faults out.old) (O.faults out.new) }
     ensures untouched { LeavesAlone (O.content out.old) (O.content out.new) result }
 {
-    let Ok(name) = Text::new(alloc, path) else {
+    let Ok(file) = String::from_str(alloc, path) else {
         return Status::NoMemory;
     };
-    let mut file = Vec::new(alloc);
-    match tree.read(path, FILE_LIMIT, &mut file) {
-        ReadAnswer::Found => match compiled(alloc, &file) {
+    let mut source = Vec::new(alloc);
+    match tree.read(path, FILE_LIMIT, &mut source) {
+        ReadAnswer::Found => match compiled(alloc, &source) {
             Ok(bytes) => written(&bytes, out),
-            Err(EchoError::NotBuilt(offset)) => Status::Refused(Refusal::NotBuilt(name, offset)),
-            Err(EchoError::NoMemory) => Status::NoMemory,
+            Err(fault) => fault.status(file),
         },
-        ReadAnswer::Absent => Status::Refused(Refusal::Missing(name)),
-        ReadAnswer::TooLong => Status::Refused(Refusal::Limit(LimitName::FileBytes, name)),
+        ReadAnswer::Absent => Status::Refused(Refusal::Missing { path: file }),
+        ReadAnswer::TooLong => Status::Refused(Refusal::Limit {
+            name: LimitName::FileBytes,
+            file,
+        }),
         ReadAnswer::Failed => Status::ReadFault,
         ReadAnswer::NoMemory => Status::NoMemory,
     }
 }
 
 /// The bytes of a file's module.
-fn compiled(alloc: Global, file: &[u8]) -> Result<Vec<u8>, EchoError>
-    requires { length file.now ≤ file_limit }
-    ensures compiled { IfOk result (λ bytes. CompilesTo file.now bytes.items) }
-    ensures fault { IfErr result (IsReason file.now) }
+fn compiled(alloc: Global, source: &[u8]) -> Result<Vec<u8>, SourceFault>
+    requires { length source.now ≤ file_limit }
+    ensures compiled { IfOk result (λ bytes. CompilesTo source.now bytes.items) }
+    ensures fault { IfErr result (IsFaultOf source.now) }
 {
-    hph_echo::texts_are_short();
-    let texts = hph_echo::texts(alloc, file)?;
+    texts_are_short();
+    texts_are_nodes();
+    let tree = hph_file::read(alloc, source)?;
+    let texts = hph_text::texts(alloc, &tree)?;
     let module = hph_lowm::module(alloc, texts.as_slice())?;
     let bytes = hph_wenc::write(alloc, &module)?;
     Ok(bytes)

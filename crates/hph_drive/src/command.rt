@@ -7,6 +7,7 @@ ghost use Rattle.hph_drive.specs.Answers.{SaysOfFile, Succeeds, NamesFile, Leave
 use crate::Status;
 use crate::build::build;
 use crate::words::main_path;
+use hph_file::one_tree;
 use hph_src::{Gate, PutAnswer, Sink, Tree};
 use std::alloc::Global;
 use std::thread::Threads;
@@ -57,7 +58,7 @@ fn answered<T: Tree, O: Sink>(alloc: Global, words: &[String], tree: &mut T, out
     ensures write_fault { result ≡ Status.WriteFault → HasRisen (O.faults out.old) (O.faults out.new) }
     ensures untouched { LeavesAlone (O.content out.old) (O.content out.new) result }
 {
-    hph_echo::fault_or_program();
+    one_tree();
     match main_path(words) {
         Some(path) => build(alloc, path, tree, out),
         None => Status::Usage,

@@ -6,14 +6,13 @@
 
 mod build;
 mod command;
+mod fault;
+mod names;
 mod refusal;
 mod status;
 #[cfg(test)]
 mod tests;
-mod text;
 mod words;
 
 pub use command::hphpc;
-pub use refusal::{LimitName, Refusal};
 pub use status::Status;
-pub use text::Text;

@@ -1,48 +1,74 @@
-use crate::Text;
-use std::fmt;
+//! What the lines of refusals say.
+ghost use Rattle.std.specs.Prelude.{◌≡◌, ◌++◌, string_bytes, codes, IfOk};
+ghost use Rattle.std.specs.Fmt.{decimal};
+ghost use Rattle.hph_drive.specs.Lines as lines;
 
-/// A limit that a program may pass.
-#[derive(Clone, Copy, Debug, PartialEq, Eq)]
-pub enum LimitName {
-    /// The bytes of one source file.
-    FileBytes,
-}
+use crate::names::{construct_name, lex_name};
+use hph_ast::{LimitName, Refusal, Spot};
+use std::alloc::{AllocError, Global};
 
-impl fmt::Display for LimitName {
-    ghost use Rattle.std.specs.Prelude.{Some};
-    ghost use Rattle.hph_drive.specs.Lines.{limit_text};
-
-    ghost output = { λ name. Some (limit_text name) };
-
-    fn fmt<W: fmt::Write>(&self, f: &mut fmt::Formatter<W>) -> fmt::Result {
-        match self {
-            LimitName::FileBytes => f.write_str("file-bytes 1048576"),
+/// What shows a refusal.
+pub fn refusal_text(alloc: Global, refusal: &Refusal) -> Result<String, AllocError>
+    ensures { IfOk result (λ text. string_bytes text ≡ lines.refusal_text refusal.now) }
+{
+    match refusal {
+        Refusal::Lex { kind, spot } => named_text(alloc, spot, "lex", lex_name(*kind)),
+        Refusal::Construct { kind, spot } => {
+            named_text(alloc, spot, "construct", construct_name(*kind))
         }
+        Refusal::TooDeep { spot } => spot_text(alloc, spot, "too-deep"),
+        Refusal::Syntax { spot } => spot_text(alloc, spot, "syntax"),
+        Refusal::Missing { path } => format!(in alloc; "refused: {path}: missing"),
+        Refusal::Limit { name, file } => limit_text(alloc, file, limit(*name)),
+        Refusal::MixedByRef { first, second } => pair_text(alloc, first, second, "mixed-by-ref"),
+        Refusal::PrivateShadow { first, second } => {
+            pair_text(alloc, first, second, "private-shadow")
+        }
+        Refusal::RefArgument { spot } => spot_text(alloc, spot, "ref-argument"),
     }
 }
 
-/// Why a program isn't built, with the file that shows it. Offsets count bytes from 0.
-#[derive(Debug, Drop)]
-pub enum Refusal {
-    /// There is no file at this path.
-    Missing(Text),
-    /// The file passes the limit.
-    Limit(LimitName, Text),
-    /// At this offset stands what can't be built yet.
-    NotBuilt(Text, u32),
+/// A place and what stands there.
+pub fn spot_text(alloc: Global, spot: &Spot, what: &str) -> Result<String, AllocError>
+    ensures { IfOk result (λ text. string_bytes text ≡ lines.at_spot spot.now what.now) }
+{
+    let file = spot.file.as_str();
+    let offset = spot.offset;
+    format!(in alloc; "refused: {file}:{offset}: {what}")
 }
 
-impl fmt::Display for Refusal {
-    ghost use Rattle.std.specs.Prelude.{Some};
-    ghost use Rattle.hph_drive.specs.Lines.{refusal_text};
+fn named_text(alloc: Global, spot: &Spot, what: &str, name: &str) -> Result<String, AllocError>
+    ensures { IfOk result (λ text. string_bytes text ≡ lines.at_spot spot.now (what.now ++ (codes " " ++ name.now))) }
+{
+    let file = spot.file.as_str();
+    let offset = spot.offset;
+    format!(in alloc; "refused: {file}:{offset}: {what} {name}")
+}
 
-    ghost output = { λ refusal. Some (refusal_text refusal) };
+fn pair_text(alloc: Global, first: &Spot, second: &Spot, what: &str) -> Result<String, AllocError>
+    ensures { IfOk result (λ text. string_bytes text ≡ lines.at_spot first.now (what.now ++ (codes " " ++ lines.spot_text second.now))) }
+{
+    let file = first.file.as_str();
+    let offset = first.offset;
+    let other = second.file.as_str();
+    let place = second.offset;
+    format!(in alloc; "refused: {file}:{offset}: {what} {other}:{place}")
+}
 
-    fn fmt<W: fmt::Write>(&self, f: &mut fmt::Formatter<W>) -> fmt::Result {
-        match self {
-            Refusal::Missing(path) => write!(f, "refused: {path}: missing"),
-            Refusal::Limit(name, path) => write!(f, "refused: {path}: limit {name}"),
-            Refusal::NotBuilt(path, offset) => write!(f, "refused: {path}:{offset}: not-built"),
-        }
+fn limit_text(alloc: Global, file: &str, limit: &str) -> Result<String, AllocError>
+    ensures { IfOk result (λ text. string_bytes text ≡ codes "refused: " ++ (file.now ++ (codes ": limit " ++ limit.now))) }
+{
+    format!(in alloc; "refused: {file}: limit {limit}")
+}
+
+/// A limit's name and its number.
+fn limit(name: LimitName) -> &'static str
+    ensures { result.now ≡ lines.limit_text name }
+{
+    match name {
+        LimitName::FileBytes => "file-bytes 1048576",
+        LimitName::AllBytes => "all-bytes 4194304",
+        LimitName::Files => "files 4096",
+        LimitName::ModuleBytes => "module-bytes 67108864",
     }
 }

@@ -1,5 +1,9 @@
-use crate::{Refusal, Status, hphpc};
+mod lines;
+
+use crate::{Status, hphpc};
+use hph_ast::{Construct, Refusal};
 use hph_src::{MemSink, MemTree, NoGate, ScriptSink, ScriptTree, Sink, Tree};
+use lines::LINES;
 use std::alloc::{AllocError, Global};
 use std::collections::BTreeMap;
 use std::test::Fail;
@@ -57,18 +61,127 @@ fn builds_an_echoed_integer_in_75_bytes(rt: HostRuntime) -> Result<(), Fail> {
 }
 
 #[test]
-fn shows_the_first_byte_that_is_not_built(rt: HostRuntime) -> Result<(), Fail> {
+fn builds_inline_text_numbers_and_strings(rt: HostRuntime) -> Result<(), Fail> {
     let alloc = rt.alloc();
     let mut out = MemSink::new(alloc);
-    let (status, err) = build(
-        &rt,
-        alloc,
-        &mut tree(alloc, b"<?php echo 3, 1.5;")?,
-        &mut out,
-    )?;
-    assert!(rt; matches!(status, Status::Refused(Refusal::NotBuilt(_, 15))));
-    assert_eq!(rt; err.bytes(), b"refused: m.php:15: not-built\n".as_slice());
+    let source = b"a\n<?php ;echo 0x1F, \"\\x41\", 'it\\'s' ?>\nb".as_slice();
+    let (status, _err) = build(&rt, alloc, &mut tree(alloc, source)?, &mut out)?;
+    assert!(rt; matches!(status, Status::Built));
+    assert!(rt; out.bytes().ends_with(b"a\n31Ait'sb"));
+    Ok(())
+}
+
+#[test]
+fn refuses_a_float_with_its_place(rt: HostRuntime) -> Result<(), Fail> {
+    let alloc = rt.alloc();
+    let mut out = MemSink::new(alloc);
+    let mut files = tree(alloc, b"<?php echo 3, 1.5;")?;
+    let (status, err) = build(&rt, alloc, &mut files, &mut out)?;
+    assert!(rt;
+        matches!(
+            status,
+            Status::Refused(Refusal::Construct {
+                kind: Construct::FloatLiteral,
+                ..
+            })
+        )
+    );
+    assert_eq!(rt;
+        err.bytes(),
+        b"refused: m.php:14: construct FloatLiteral\n".as_slice()
+    );
     assert!(rt; out.bytes().is_empty());
+    Ok(())
+}
+
+/// Whether the line that shows the fault of a source is this one.
+fn shows<R: Threads + Sync>(
+    rt: &R,
+    alloc: Global,
+    source: &[u8],
+    line: &str,
+) -> Result<bool, AllocError> {
+    let mut out = MemSink::new(alloc);
+    let (_status, err) = build(rt, alloc, &mut tree(alloc, source)?, &mut out)?;
+    Ok(err.bytes() == line.as_bytes())
+}
+
+#[test]
+fn shows_the_first_fault_of_each_source(rt: HostRuntime) -> Result<(), Fail> {
+    for (source, line) in &LINES {
+        assert!(rt; shows(&rt, rt.alloc(), source, line)?, "{line}");
+    }
+    Ok(())
+}
+
+/// `echo`, so many times some bytes, others, and as often what closes the first.
+fn repeated(
+    alloc: Global,
+    times: usize,
+    before: &str,
+    inner: &str,
+    behind: &str,
+) -> Result<Vec<u8>, AllocError> {
+    let mut source = b"<?php echo ".to_vec(alloc)?;
+    for _ in 0..times {
+        source.extend_from_slice(before.as_bytes())?;
+    }
+    source.extend_from_slice(inner.as_bytes())?;
+    for _ in 0..times {
+        source.extend_from_slice(behind.as_bytes())?;
+    }
+    source.push(b';')?;
+    Ok(source)
+}
+
+/// Whether the line that shows the fault of a source ends so.
+fn ends<R: Threads + Sync>(
+    rt: &R,
+    alloc: Global,
+    source: &[u8],
+    line: &str,
+) -> Result<bool, AllocError> {
+    let mut out = MemSink::new(alloc);
+    let (_status, err) = build(rt, alloc, &mut tree(alloc, source)?, &mut out)?;
+    Ok(err.bytes().ends_with(line.as_bytes()))
+}
+
+#[test]
+fn counts_open_brackets_before_syntax(rt: HostRuntime) -> Result<(), Fail> {
+    let alloc = rt.alloc();
+    let deep = repeated(alloc, 257, "[", "", "")?;
+    assert!(rt; ends(&rt, alloc, &deep, "refused: m.php:267: too-deep\n")?);
+    let open = repeated(alloc, 256, "[", "", "")?;
+    assert!(rt; ends(&rt, alloc, &open, ": syntax\n")?);
+    Ok(())
+}
+
+/// How often something may be nested in an operand of `echo`: a tree is 512 deep at most, and 256 brackets are open. Then the end of
+/// the line where it is nested once more.
+const DEEPEST: [(usize, &str, &str, &str, &str); 4] = [
+    (509, "!", "1", "", ": syntax\n"),
+    (255, "[", "", "]", ": syntax\n"),
+    (256, "(", "1", ")", "m.php:267: too-deep\n"),
+    (509, "", "$a", "->m()", ": syntax\n"),
+];
+
+#[test]
+fn nests_512_deep_with_the_file_and_the_statement(rt: HostRuntime) -> Result<(), Fail> {
+    let alloc = rt.alloc();
+    for (times, before, inner, behind, line) in DEEPEST {
+        let deepest = repeated(alloc, times, before, inner, behind)?;
+        assert!(rt;
+            ends(&rt, alloc, &deepest, "m.php:11: unlowered\n")?,
+            "{times} {before}{behind}"
+        );
+        let deeper = repeated(alloc, times.saturating_add(1), before, inner, behind)?;
+        assert!(rt;
+            ends(&rt, alloc, &deeper, line)?,
+            "one more than {times} {before}{behind}"
+        );
+    }
+    let far_deeper = repeated(alloc, 600, "!", "1", "")?;
+    assert!(rt; ends(&rt, alloc, &far_deeper, ": syntax\n")?);
     Ok(())
 }
 
@@ -78,7 +191,7 @@ fn names_a_missing_file(rt: HostRuntime) -> Result<(), Fail> {
     let mut out = MemSink::new(alloc);
     let mut empty = MemTree::new(BTreeMap::new(alloc));
     let (status, err) = build(&rt, alloc, &mut empty, &mut out)?;
-    assert!(rt; matches!(status, Status::Refused(Refusal::Missing(_))));
+    assert!(rt; matches!(status, Status::Refused(Refusal::Missing { .. })));
     assert_eq!(rt; err.bytes(), b"refused: m.php: missing\n".as_slice());
     Ok(())
 }

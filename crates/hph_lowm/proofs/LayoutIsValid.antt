@@ -10,7 +10,7 @@ use Rattle.hph_wasm.specs.Php1.{php1}
 use Rattle.std.specs.List.{AllByRecursion}
 use Rattle.hph_lowm.specs.Layout.{pages_of, write_type, main_type, prints_from, segments_of, module_of}
 
-few_pages : (bytes : ℕ) → bytes ≤ 2 ^ 20 → pages_of bytes ≤ 65536
+few_pages : (bytes : ℕ) → bytes ≤ 2 ^ 21 → pages_of bytes ≤ 65536
 unfolding pages_of
 few_pages bytes small = omega arith
 
@@ -31,7 +31,7 @@ segments_are_valid : (texts : List (List ℕ)) → AllByRecursion (IsSegment (mo
 segments_are_valid [] = tt
 segments_are_valid (text ∷ texts) = ((omega arith, ((I32 ∷ [], ([], refl, refl), refl), (tt, tt))), tt)
 
-pub layout_is_valid : (texts : List (List ℕ)) → length (concat texts) ≤ 2 ^ 20 → IsValid (module_of texts)
+pub layout_is_valid : (texts : List (List ℕ)) → length (concat texts) ≤ 2 ^ 21 → IsValid (module_of texts)
 layout_is_valid texts small = record {
   outside = record {
     types = (omega arith, (omega arith, tt));

@@ -79,5 +79,5 @@ spelling_short texts = sections_short (module_of texts) refl refl refl 41 51 16 
     (let h = one_short 10 code_bytes (main_of texts) (11 + 18 * length texts) (code_short texts) in omega (arith, h))
     (segments_short texts)
 
-pub layout_is_writable : (texts : List (List ℕ)) → length (concat texts) + length texts ≤ 2 ^ 20 → IsWritable (module_of texts)
+pub layout_is_writable : (texts : List (List ℕ)) → length (concat texts) + length texts ≤ 2 ^ 21 → IsWritable (module_of texts)
 layout_is_writable texts small = record { short = omega (arith, spelling_short texts); few_locals = (omega arith, tt) }

@@ -14,6 +14,7 @@ use Rattle.hph_wasm.specs.Instantiation.{zeros, with_segments, memory_at_start}
 use Rattle.hph_wasm.specs.Run.{wasm, outcome_of, start}
 use Rattle.hph_wasm.specs.Php1.{php1, PhpStop}
 use Rattle.hph_wasm.specs.Agrees.{Follows}
+use Rattle.std.proofs.Math.Nat.{le_trans}
 use Rattle.hph_lowm.specs.Layout.{pages_of, prints_from, segments_of, module_of}
 use Rattle.hph_lowm.specs.Program.{php, cost}
 
@@ -90,14 +91,20 @@ module_ends in_turn texts =
     one_more n = omega arith
 
 -- one unit pays for all of them
-within_cost : (texts : List (List ℕ)) (units : ℕ) → reductions texts ≤ cost texts (suc units)
+few : (nodes units : ℕ) → 4 * nodes + 2 ≤ cost nodes (suc units)
+few nodes units = grind arith
+
+within_cost : (texts : List (List ℕ)) (nodes units : ℕ) → length texts ≤ nodes → reductions texts ≤ cost nodes (suc units)
 unfolding reductions
-within_cost texts units = grind arith
+within_cost texts nodes units enough =
+    let most = few nodes units in
+    let needed : reductions texts ≤ 4 * nodes + 2 = omega (arith, enough) in
+    le_trans needed most
 
 -- a run that is done is over
 done_is_not_more : ◌≡◌ {A = End PhpStop} Done More → ⊥
 done_is_not_more same = cc
 
-pub layout_follows : InTurn → (texts : List (List ℕ)) → Follows (php texts) (wasm php1 [] (module_of texts)) (cost texts)
-layout_follows in_turn texts zero = (0, omega arith, refl, λ _. omega arith)
-layout_follows in_turn texts (suc units) = (reductions texts, within_cost texts units, module_ends in_turn texts, λ goes_on. absurd (done_is_not_more goes_on))
+pub layout_follows : InTurn → (texts : List (List ℕ)) (nodes : ℕ) → length texts ≤ nodes → Follows (php texts) (wasm php1 [] (module_of texts)) (cost nodes)
+layout_follows in_turn texts nodes enough zero = (0, omega arith, refl, λ _. omega arith)
+layout_follows in_turn texts nodes enough (suc units) = (reductions texts, within_cost texts nodes units enough, module_ends in_turn texts, λ goes_on. absurd (done_is_not_more goes_on))

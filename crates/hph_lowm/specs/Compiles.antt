@@ -9,9 +9,9 @@ use Rattle.hph_wasm.specs.Agrees.{Agrees}
 use Rattle.hph_lowm.specs.Program.{php, cost}
 
 -- The module is valid, the host has all that it imports at its type, its segments fit its memory,
--- and for all units and reductions its run is the program's.
-pub record Compiles (texts : List (List ℕ)) (m : Module) : Type 0 where
+-- and for all units and reductions its run is that of the program, which has so many nodes.
+pub record Compiles (texts : List (List ℕ)) (nodes : ℕ) (m : Module) : Type 0 where
   pub valid : IsValid m
   pub linked : IsLinked php1 m
   pub fits : SegmentsFit m
-  pub agrees : Agrees (php texts) (wasm php1 [] m) (cost texts)
+  pub agrees : Agrees (php texts) (wasm php1 [] m) (cost nodes)

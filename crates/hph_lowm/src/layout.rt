@@ -1,12 +1,12 @@
-ghost use Rattle.std.specs.Prelude.{◌≡◌, ◌≤◌, ◌+◌, ◌^◌, ◌∷◌, [], length, pos, IfOk};
+ghost use Rattle.std.specs.Prelude.{◌≡◌, ◌≤◌, ℕ, ◌+◌, ◌^◌, ◌∷◌, [], length, pos, IfOk};
 ghost use Rattle.std.specs.List.{concat};
 ghost use Rattle.hph_wasm.specs.Spelling.{IsWritable};
 ghost use Rattle.hph_lowm.specs.Compiles.{Compiles};
 ghost use Rattle.hph_lowm.specs.Layout.{pages_of, write_type, main_type, write_import, main_export, prints_from, segments_of, module_of};
 
 use hph_wasm::{
-    Export, ExportDesc, Func, FuncType, Import, ImportDesc, Instr, Limits, Module, Name, Php1,
-    Segment, ValType, php1_both_directions, reductions_in_turn,
+    Export, ExportDesc, Func, FuncType, Import, ImportDesc, Instr, Limits, Locals, Module, Name,
+    Php1, Segment, ValType, php1_both_directions, reductions_in_turn,
 };
 use sqlite_items::Items;
 use std::alloc::{AllocError, Global};
@@ -25,10 +25,10 @@ const MAIN: u32 = 1;
 
 /// The module that prints these texts, in order, and ends.
 pub fn module(alloc: Global, texts: &[Items<u8>]) -> Result<Module, AllocError>
-    requires { length (concat texts.now) + length texts.now ≤ 2 ^ 20 }
+    requires { length (concat texts.now) + length texts.now ≤ 2 ^ 21 }
     ensures laid_out { IfOk result (λ m. m ≡ module_of texts.now) }
     ensures writable { IfOk result IsWritable }
-    ensures compiles { IfOk result (Compiles texts.now) }
+    ensures compiles { (nodes : ℕ) → length texts.now ≤ nodes → IfOk result (Compiles texts.now nodes) }
 {
     reductions_in_turn::<Php1>();
     php1_both_directions();
@@ -36,13 +36,13 @@ pub fn module(alloc: Global, texts: &[Items<u8>]) -> Result<Module, AllocError>
 }
 
 fn laid_out(alloc: Global, texts: &[Items<u8>]) -> Result<Module, AllocError>
-    requires { length (concat texts.now) ≤ 2 ^ 20 }
+    requires { length (concat texts.now) ≤ 2 ^ 21 }
     ensures { IfOk result (λ m. m ≡ module_of texts.now) }
 {
     let pool = pool(alloc, texts)?;
     let main = Func {
         ty: MAIN_TYPE,
-        locals: Items::new(alloc),
+        locals: Locals::new(alloc),
         body: body(alloc, texts)?,
     };
     let memory = Limits {
@@ -109,7 +109,7 @@ fn main_export(alloc: Global) -> Result<Export, AllocError>
 /// The pages that so many bytes need, at least one.
 #[tactic(auto, unfolding(crate::specs::Layout::pages_of))]
 fn pages_of(bytes: usize) -> u32
-    requires { bytes ≤ 2 ^ 20 }
+    requires { bytes ≤ 2 ^ 21 }
     ensures { result ≡ pages_of bytes }
 {
     bytes.div_ceil(PAGE_BYTES).max(1) as u32
@@ -128,7 +128,7 @@ fn pool(alloc: Global, texts: &[Items<u8>]) -> Result<Items<u8>, AllocError>
 
 /// What prints each text from its place in the pool.
 fn body(alloc: Global, texts: &[Items<u8>]) -> Result<Items<Instr>, AllocError>
-    requires { length (concat texts.now) ≤ 2 ^ 20 }
+    requires { length (concat texts.now) ≤ 2 ^ 21 }
     ensures { IfOk result (λ body. body ≡ prints_from 0 texts.now) }
 {
     let mut body = Items::new(alloc);

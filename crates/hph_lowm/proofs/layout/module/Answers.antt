@@ -14,12 +14,12 @@ pub returns-clause-writable : goal.returns-clause-writable
 returns-clause-writable c = IfOk-weaker c.laid_out.result _ _ (λ m same. subst IsWritable (sym same) (layout_is_writable c.args.texts.now c.requires)) c.laid_out.ensures
 
 pub returns-clause-compiles : goal.returns-clause-compiles
-returns-clause-compiles c =
+returns-clause-compiles c = λ nodes enough.
     let texts = c.args.texts.now in
-    let compiles : Compiles texts (module_of texts) = record {
+    let compiles : Compiles texts nodes (module_of texts) = record {
       valid = layout_is_valid texts (omega (arith, c.requires));
       linked = layout_is_linked texts;
       fits = layout_fits texts;
-      agrees = c.php1_both_directions.ensures (module_of texts) (php texts) (cost texts) (layout_follows (c.reductions_in_turn.ensures php1) texts);
+      agrees = c.php1_both_directions.ensures (module_of texts) (php texts) (cost nodes) (layout_follows (c.reductions_in_turn.ensures php1) texts nodes enough);
     } in
-    IfOk-weaker c.laid_out.result _ _ (λ m same. subst (Compiles texts) (sym same) compiles) c.laid_out.ensures
+    IfOk-weaker c.laid_out.result _ _ (λ m same. subst (Compiles texts nodes) (sym same) compiles) c.laid_out.ensures

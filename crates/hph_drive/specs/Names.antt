@@ -1,0 +1,57 @@
+-- The names of faults and constructs, as lines show them: this project's own.
+use Rattle.std.specs.Prelude.{ℕ, List, codes}
+use Rattle.hph_ast.specs.declared.refusal.LexKind.{LexKind}
+use Rattle.hph_ast.specs.declared.refusal.LexKind.TheVariants as l
+use Rattle.hph_ast.specs.declared.refusal.Construct.{Construct}
+use Rattle.hph_ast.specs.declared.refusal.Construct.TheVariants as c
+
+abbrev pub lex_name : LexKind → List ℕ
+lex_name l.UnclosedString = codes "UnclosedString"
+lex_name l.UnclosedComment = codes "UnclosedComment"
+lex_name l.BadEscape = codes "BadEscape"
+lex_name l.BadNumber = codes "BadNumber"
+lex_name l.BadByte = codes "BadByte"
+
+abbrev pub construct_name : Construct → List ℕ
+construct_name c.FloatLiteral = codes "FloatLiteral"
+construct_name c.Heredoc = codes "Heredoc"
+construct_name c.ShellExec = codes "ShellExec"
+construct_name c.Interpolation = codes "Interpolation"
+construct_name c.Attribute = codes "Attribute"
+construct_name c.VarVar = codes "VarVar"
+construct_name c.Namespace = codes "Namespace"
+construct_name c.NullSafe = codes "NullSafe"
+construct_name c.Variadic = codes "Variadic"
+construct_name c.OtherCast = codes "OtherCast"
+construct_name c.Eval = codes "Eval"
+construct_name c.Generator = codes "Generator"
+construct_name c.Closure = codes "Closure"
+construct_name c.RefReturn = codes "RefReturn"
+construct_name c.Exceptions = codes "Exceptions"
+construct_name c.TypeKind = codes "TypeKind"
+construct_name c.Declare = codes "Declare"
+construct_name c.Goto = codes "Goto"
+construct_name c.Match = codes "Match"
+construct_name c.AltSyntax = codes "AltSyntax"
+construct_name c.Destructure = codes "Destructure"
+construct_name c.Clone = codes "Clone"
+construct_name c.Halt = codes "Halt"
+construct_name c.MagicConstant = codes "MagicConstant"
+construct_name c.Superglobal = codes "Superglobal"
+construct_name c.TypeDeclared = codes "TypeDeclared"
+construct_name c.NamedArgument = codes "NamedArgument"
+construct_name c.Dynamic = codes "Dynamic"
+construct_name c.RefElement = codes "RefElement"
+construct_name c.ClassName = codes "ClassName"
+construct_name c.MagicMethod = codes "MagicMethod"
+construct_name c.IncludePath = codes "IncludePath"
+construct_name c.IncludeExpr = codes "IncludeExpr"
+construct_name c.IncludeInFunction = codes "IncludeInFunction"
+construct_name c.StaticPlace = codes "StaticPlace"
+construct_name c.LibraryName = codes "LibraryName"
+construct_name c.ThisOutside = codes "ThisOutside"
+construct_name c.ThisWrite = codes "ThisWrite"
+construct_name c.ClassContext = codes "ClassContext"
+construct_name c.BadBreak = codes "BadBreak"
+construct_name c.DuplicateName = codes "DuplicateName"
+construct_name c.UnsetProperty = codes "UnsetProperty"

@@ -1,9 +1,0 @@
-mod ByteLaws
-mod IntegerLaws
-mod PieceLaws
-mod ProgramLaws
-mod FileLaws
-mod TextLaws
-mod ReadLaws
-mod EveryFile
-mod Examples

@@ -1,0 +1,9 @@
+pub mod Numerals
+pub mod Strings
+pub mod Weights
+pub mod Keys
+pub mod Places
+pub mod Files
+pub mod Operands
+pub mod Texts
+pub mod Nodes
