@@ -13,7 +13,7 @@ use crate::parts::Parts;
 use crate::words::expect_label_end;
 use hph_ast::{At, Case, Expr, Keyword, Kind, Statement, Token};
 use hph_cursor::{Cursor, ParseFault};
-use sqlite_items::Items;
+use sqlite_items::{Boxed, Items};
 
 fn is_default(case: &Case) -> bool
     ensures { result ≡ grammar.is_default case.now }
@@ -34,11 +34,21 @@ fn defaults(cases: &[Case]) -> usize
     count
 }
 
+/// The expression behind `case`, if there is one.
+pub fn unboxed(test: Option<Boxed<Expr>>) -> Option<Expr>
+    ensures { result ≡ test }
+{
+    match test {
+        Some(test) => Some(test.into_inner()),
+        None => None,
+    }
+}
+
 /// A `switch` with these cases, unless more than one label is `default`.
 pub fn switch_of(
     cursor: &Cursor<'_>,
     at: At,
-    subject: Expr,
+    subject: Boxed<Expr>,
     cases: Items<Case>,
 ) -> Result<Statement, ParseFault>
     ensures { Reads (pure_if (nat_le (count_by grammar.is_default cases) 1) (s.Switch at subject cases) cursor.now) result cursor.now }
@@ -46,12 +56,20 @@ pub fn switch_of(
     if defaults(cases.as_slice()) > 1 {
         return Err(cursor.refuse());
     }
-    Ok(Statement::Switch { at, subject, cases })
+    Ok(Statement::Switch {
+        at,
+        subject: subject.into_inner(),
+        cases,
+    })
 }
 
 impl<E: Expressions> Parts<E> {
     /// Behind `case` or `default`.
-    fn label_test(&self, cursor: &mut Cursor<'_>, kind: &Kind) -> Result<Option<Expr>, ParseFault>
+    fn label_test(
+        &self,
+        cursor: &mut Cursor<'_>,
+        kind: &Kind,
+    ) -> Result<Option<Boxed<Expr>>, ParseFault>
         ensures { Reads (statements.label_by spec.expressions kind.now cursor.old) result cursor.new }
     {
         match kind {
@@ -69,7 +87,7 @@ impl<E: Expressions> Parts<E> {
     pub fn label<'a>(
         &self,
         cursor: &mut Cursor<'a>,
-    ) -> Result<(Option<Expr>, &'a Token), ParseFault>
+    ) -> Result<(Option<Boxed<Expr>>, &'a Token), ParseFault>
         ensures { ReadsAs (λ r. (r.0, r.1.now)) (statements.label spec.expressions cursor.old) result cursor.new }
     {
         let token = cursor.take()?;

@@ -11,13 +11,13 @@ ghost use Rattle.hph_fstmt.specs.Parser as spec;
 use hph_ast::{At, Expr};
 use hph_cursor::{Cursor, ParseFault};
 use hph_fexpr::Elements;
-use sqlite_items::Items;
+use sqlite_items::{Boxed, Items};
 use std::alloc::Global;
 
 /// A parser of expressions that nest no deeper than a file's may. What follows what it reads is left.
 pub trait Expressions {
     /// An expression with all its operators.
-    fn expression(&self, alloc: Global, cursor: &mut Cursor<'_>) -> Result<Expr, ParseFault>
+    fn expression(&self, alloc: Global, cursor: &mut Cursor<'_>) -> Result<Boxed<Expr>, ParseFault>
         ensures { Reads (spec.expressions (Level 1) cursor.old) result cursor.new };
 
     /// Paths that may be written, behind `(`, and the place of the `)`.

@@ -48,7 +48,7 @@ impl<E: Expressions> Parts<E> {
     {
         let mut found = Items::new(self.alloc);
         for _turn in 0..cursor.left() {
-            found.push(self.expr(cursor)?)?;
+            found.push(self.expr(cursor)?.into_inner())?;
             if !cursor.sees(Mark::Comma) {
                 let close = cursor.expect(closing)?;
                 return Ok((found, close));

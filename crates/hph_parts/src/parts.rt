@@ -11,6 +11,7 @@ use crate::words::{expect_set, identifier_place, name, variable};
 use hph_ast::{At, ConstantItem, Expr, Mark, PropertyItem, StaticVariable};
 use hph_cursor::{Cursor, ParseFault, place};
 use hph_nest::is_constant;
+use sqlite_items::Boxed;
 use std::alloc::Global;
 
 /// The rules for what holds expressions and no statements.
@@ -22,7 +23,7 @@ pub struct Parts<E> {
 
 impl<E: Expressions> Parts<E> {
     /// An expression with all its operators.
-    pub fn expr(&self, cursor: &mut Cursor<'_>) -> Result<Expr, ParseFault>
+    pub fn expr(&self, cursor: &mut Cursor<'_>) -> Result<Boxed<Expr>, ParseFault>
         ensures { Reads (spec.expressions (Level 1) cursor.old) result cursor.new }
     {
         self.expressions.expression(self.alloc, cursor)
@@ -30,7 +31,7 @@ impl<E: Expressions> Parts<E> {
 
     /// An expression in parentheses.
     #[tactic(auto, unfolding(hph_fstmt::specs::Statements::in_parentheses))]
-    pub fn test(&self, cursor: &mut Cursor<'_>) -> Result<Expr, ParseFault>
+    pub fn test(&self, cursor: &mut Cursor<'_>) -> Result<Boxed<Expr>, ParseFault>
         ensures { Reads (statements.in_parentheses spec.expressions cursor.old) result cursor.new }
     {
         cursor.expect(Mark::OpenParen)?;
@@ -41,11 +42,11 @@ impl<E: Expressions> Parts<E> {
 
     /// An expression that may be the value of a constant.
     #[tactic(auto, unfolding(hph_fstmt::specs::Declarations::constant))]
-    fn constant(&self, cursor: &mut Cursor<'_>) -> Result<Expr, ParseFault>
+    fn constant(&self, cursor: &mut Cursor<'_>) -> Result<Boxed<Expr>, ParseFault>
         ensures { Reads (declarations.constant spec.expressions cursor.old) result cursor.new }
     {
         let found = self.expr(cursor)?;
-        if is_constant(&found) {
+        if is_constant(found.get()) {
             Ok(found)
         } else {
             Err(cursor.refuse())
@@ -62,8 +63,8 @@ impl<E: Expressions> Parts<E> {
         }
         cursor.take()?;
         let value = self.constant(cursor)?;
-        let last = place(&value);
-        Ok((Some(value), last))
+        let last = place(value.get());
+        Ok((Some(value.into_inner()), last))
     }
 
     #[tactic(auto, unfolding(hph_fstmt::specs::Declarations::static_variable))]
@@ -91,6 +92,9 @@ impl<E: Expressions> Parts<E> {
         let name = name(self.alloc, cursor)?;
         expect_set(cursor)?;
         let value = self.constant(cursor)?;
-        Ok(ConstantItem { name, value })
+        Ok(ConstantItem {
+            name,
+            value: value.into_inner(),
+        })
     }
 }

@@ -113,8 +113,8 @@ impl<E: Expressions> Parts<E> {
         let value = self.expr(cursor)?;
         let close = cursor.expect(Mark::Semicolon)?;
         Ok(Statement::Expression {
-            at: span(place(&value), on(close)),
-            value,
+            at: span(place(value.get()), on(close)),
+            value: value.into_inner(),
         })
     }
 
@@ -135,7 +135,7 @@ impl<E: Expressions> Parts<E> {
         let close = cursor.expect(Mark::Semicolon)?;
         Ok(Statement::Return {
             at: span(on(token), on(close)),
-            value: Some(value),
+            value: Some(value.into_inner()),
         })
     }
 

@@ -12,7 +12,7 @@ use Rattle.hph_fexpr.specs.declared.form.Form.{Form}
 use Rattle.hph_fexpr.specs.Classes.{class_reference}
 use Rattle.hph_fexpr.specs.Terms.{stopped}
 use Rattle.hph_fexpr.specs.Climb as p
-use Rattle.hph_pexpr.proofs.Turns.{deeper}
+use Rattle.hph_cursor.proofs.Turns.{deeper}
 
 if_true : {A : Type 0} (x y : A) {z : A} {b : Bool} → b ≡ true → x ≡ z → (if b then x else y) ≡ z
 if_true x y e h = ap (λ b. if b then x else y) e ∙ h

@@ -1,102 +1,117 @@
 //! Binary operators, level by level: PHP manual, Operator Precedence.
 
 ghost use Rattle.hph_cursor.specs.Reads.{Reads, ReadsAs};
-ghost use Rattle.hph_pexpr.specs.Nests.{Nests, passes};
+ghost use Rattle.hph_postfix.specs.Nests.{Nests, passes};
 ghost use Rattle.hph_fexpr.specs.Parser.{parse};
 ghost use Rattle.std.specs.Prelude.{◌<◌, [], length};
 ghost use Rattle.hph_ast.specs.Levels as levels;
 ghost use Rattle.hph_fexpr.specs.Climb as spec;
 
-use crate::grammar::Grammar;
+use crate::operators::Operators;
 use hph_ast::{Binary, ClassReference, Expr, Grouping, Mark};
 use hph_cursor::nodes::{instance_of_of, pair_of, run_of};
 use hph_cursor::{Cursor, ParseFault, grouping};
 use hph_fexpr::Form;
-use sqlite_items::Items;
+use sqlite_items::{Boxed, Items};
 use std::alloc::Global;
 
 /// All levels are below this one.
 const TOP: u8 = 23;
 
-impl<F: Fn(Global, &mut Cursor<'_>, usize, Form) -> Result<Expr, ParseFault>> Grammar<F> {
+impl<F: Fn(Global, &mut Cursor<'_>, usize, Form) -> Result<Boxed<Expr>, ParseFault>> Operators<F> {
     /// The operators of a level and the operands behind them.
     fn operands(
         &self,
         cursor: &mut Cursor<'_>,
         level: u8,
     ) -> Result<Items<(Binary, Expr)>, ParseFault>
-        requires nests { Nests self.now.depth (F.pre self.now.nested) (F.post self.now.nested) }
+        requires nests { Nests self.now.below.depth (F.pre self.now.below.nested) (F.post self.now.below.nested) }
         requires small { level < 23 }
-        ensures { Reads (spec.operands_from (parse self.now.depth) level (length cursor.old) [] cursor.old) result cursor.new }
+        ensures { Reads (spec.operands_from (parse self.now.below.depth) level (length cursor.old) [] cursor.old) result cursor.new }
     {
-        let mut found = Items::new(self.alloc);
+        let mut found = Items::new(self.below.alloc);
         for _turn in 0..cursor.left() {
             let Some(operator) = cursor.operator(level) else {
                 return Ok(found);
             };
             cursor.take()?;
-            found.push((operator, self.level(cursor, level + 1)?))?;
+            let operand = self.below.level(cursor, level + 1)?;
+            found.push((operator, operand.into_inner()))?;
         }
         Ok(found)
     }
 
     #[tactic(auto, unfolding(hph_fexpr::specs::Climb::run))]
-    fn run(&self, cursor: &mut Cursor<'_>, level: u8, first: Expr) -> Result<Expr, ParseFault>
-        requires nests { Nests self.now.depth (F.pre self.now.nested) (F.post self.now.nested) }
+    fn run(
+        &self,
+        cursor: &mut Cursor<'_>,
+        level: u8,
+        first: Boxed<Expr>,
+    ) -> Result<Boxed<Expr>, ParseFault>
+        requires nests { Nests self.now.below.depth (F.pre self.now.below.nested) (F.post self.now.below.nested) }
         requires small { level < 23 }
-        ensures { Reads (spec.run (parse self.now.depth) level first cursor.old) result cursor.new }
+        ensures { Reads (spec.run (parse self.now.below.depth) level first cursor.old) result cursor.new }
     {
         let found = self.operands(cursor, level)?;
-        Ok(run_of(self.alloc, first, found)?)
+        Ok(run_of(self.below.alloc, first, found)?)
     }
 
     #[tactic(auto, unfolding(hph_fexpr::specs::Climb::pair))]
     fn pair(
         &self,
         cursor: &mut Cursor<'_>,
-        left: Expr,
+        left: Boxed<Expr>,
         operator: Binary,
         level: u8,
-    ) -> Result<Expr, ParseFault>
-        requires { Nests self.now.depth (F.pre self.now.nested) (F.post self.now.nested) }
-        ensures { Reads (spec.pair (parse self.now.depth) left operator level cursor.old) result cursor.new }
+    ) -> Result<Boxed<Expr>, ParseFault>
+        requires { Nests self.now.below.depth (F.pre self.now.below.nested) (F.post self.now.below.nested) }
+        ensures { Reads (spec.pair (parse self.now.below.depth) left operator level cursor.old) result cursor.new }
     {
         cursor.take()?;
-        let right = self.level(cursor, level)?;
-        Ok(pair_of(self.alloc, operator, left, right)?)
+        let right = self.below.level(cursor, level)?;
+        Ok(pair_of(self.below.alloc, operator, left, right)?)
     }
 
     fn classes(&self, cursor: &mut Cursor<'_>) -> Result<Items<ClassReference>, ParseFault>
-        requires { Nests self.now.depth (F.pre self.now.nested) (F.post self.now.nested) }
-        ensures { Reads (spec.classes_from (parse self.now.depth) (length cursor.old) [] cursor.old) result cursor.new }
+        requires { Nests self.now.below.depth (F.pre self.now.below.nested) (F.post self.now.below.nested) }
+        ensures { Reads (spec.classes_from (parse self.now.below.depth) (length cursor.old) [] cursor.old) result cursor.new }
     {
-        let mut found = Items::new(self.alloc);
+        let mut found = Items::new(self.below.alloc);
         for _turn in 0..cursor.left() {
             if !cursor.sees_instance_of() {
                 return Ok(found);
             }
             cursor.take()?;
-            found.push(self.class_reference(cursor)?)?;
+            found.push(self.below.class_reference(cursor)?)?;
         }
         Ok(found)
     }
 
     /// At `instanceof`.
     #[tactic(auto, unfolding(hph_fexpr::specs::Climb::instances))]
-    fn instances(&self, cursor: &mut Cursor<'_>, subject: Expr) -> Result<Expr, ParseFault>
-        requires { Nests self.now.depth (F.pre self.now.nested) (F.post self.now.nested) }
-        ensures { Reads (spec.instances (parse self.now.depth) subject cursor.old) result cursor.new }
+    fn instances(
+        &self,
+        cursor: &mut Cursor<'_>,
+        subject: Boxed<Expr>,
+    ) -> Result<Boxed<Expr>, ParseFault>
+        requires { Nests self.now.below.depth (F.pre self.now.below.nested) (F.post self.now.below.nested) }
+        ensures { Reads (spec.instances (parse self.now.below.depth) subject cursor.old) result cursor.new }
     {
         let found = self.classes(cursor)?;
-        Ok(instance_of_of(self.alloc, subject, found)?)
+        Ok(instance_of_of(self.below.alloc, subject, found)?)
     }
 
     /// An expression goes on with operators of a level.
     #[tactic(auto, unfolding(hph_fexpr::specs::Climb::longer))]
-    fn longer(&self, cursor: &mut Cursor<'_>, level: u8, left: Expr) -> Result<Expr, ParseFault>
-        requires nests { Nests self.now.depth (F.pre self.now.nested) (F.post self.now.nested) }
+    fn longer(
+        &self,
+        cursor: &mut Cursor<'_>,
+        level: u8,
+        left: Boxed<Expr>,
+    ) -> Result<Boxed<Expr>, ParseFault>
+        requires nests { Nests self.now.below.depth (F.pre self.now.below.nested) (F.post self.now.below.nested) }
         requires small { level < 23 }
-        ensures { Reads (spec.longer (parse self.now.depth) level left cursor.old) result cursor.new }
+        ensures { Reads (spec.longer (parse self.now.below.depth) level left cursor.old) result cursor.new }
     {
         let Some(operator) = cursor.binary() else {
             if cursor.sees(Mark::Question) {
@@ -115,9 +130,14 @@ impl<F: Fn(Global, &mut Cursor<'_>, usize, Form) -> Result<Expr, ParseFault>> Gr
     }
 
     /// The levels from the tightest down to one.
-    fn climb(&self, cursor: &mut Cursor<'_>, least: u8, mut found: Expr) -> Result<Expr, ParseFault>
-        requires { Nests self.now.depth (F.pre self.now.nested) (F.post self.now.nested) }
-        ensures { Reads (spec.climb (parse self.now.depth) least levels.top found cursor.old) result cursor.new }
+    fn climb(
+        &self,
+        cursor: &mut Cursor<'_>,
+        least: u8,
+        mut found: Boxed<Expr>,
+    ) -> Result<Boxed<Expr>, ParseFault>
+        requires { Nests self.now.below.depth (F.pre self.now.below.nested) (F.post self.now.below.nested) }
+        ensures { Reads (spec.climb (parse self.now.below.depth) least levels.top found cursor.old) result cursor.new }
     {
         let mut level = TOP;
         while level > least {
@@ -135,9 +155,9 @@ impl<F: Fn(Global, &mut Cursor<'_>, usize, Form) -> Result<Expr, ParseFault>> Gr
 
     /// An expression of a level, whose parts nest one deeper.
     #[tactic(auto, unfolding(hph_fexpr::specs::Climb::one_level))]
-    pub fn one_level(&self, cursor: &mut Cursor<'_>, least: u8) -> Result<Expr, ParseFault>
-        requires { Nests self.now.depth (F.pre self.now.nested) (F.post self.now.nested) }
-        ensures { Reads (spec.one_level (parse self.now.depth) least cursor.old) result cursor.new }
+    pub fn one_level(&self, cursor: &mut Cursor<'_>, least: u8) -> Result<Boxed<Expr>, ParseFault>
+        requires { Nests self.now.below.depth (F.pre self.now.below.nested) (F.post self.now.below.nested) }
+        ensures { Reads (spec.one_level (parse self.now.below.depth) least cursor.old) result cursor.new }
     {
         let found = self.term(cursor)?;
         self.climb(cursor, least, found)

@@ -1,24 +1,15 @@
-//! Expressions from tokens (PHP manual, Expressions).
+//! Expressions from tokens (PHP manual, Expressions): operators, assignments and choices over what is read without operators.
 //!
 //! Each function does what one of the functions on lists of tokens does, with what is nested one deeper as a parameter.
 #![tactic(auto)]
 
-mod arrays;
 mod branches;
 mod climb;
-mod grammar;
-mod lists;
-mod members;
+mod operators;
 mod parser;
-mod path_test;
-mod postfix;
-mod primaries;
 mod public;
-mod strings;
-mod targets;
 mod terms;
 mod written;
 
 pub use parser::{nested, nested_elements, nested_paths};
-pub use path_test::PathTest;
 pub use public::expr;

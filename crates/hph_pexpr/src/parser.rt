@@ -3,26 +3,26 @@
 ghost use Rattle.hph_cursor.specs.Reads.{Reads};
 ghost use Rattle.hph_fexpr.specs.Arrays as arrays;
 ghost use Rattle.hph_fexpr.specs.Lists as lists;
-ghost use Rattle.hph_pexpr.specs.Nests.{Nests, passes};
+ghost use Rattle.hph_postfix.specs.Nests.{Nests, passes};
 ghost use Rattle.hph_fexpr.specs.Parser as spec;
 ghost use Rattle.hph_fexpr.specs.Parser.{parse};
 
-use crate::grammar::Grammar;
-use crate::path_test::PathTest;
+use crate::operators::Operators;
 use hph_ast::{At, Expr, Mark};
 use hph_cursor::{Cursor, ParseFault};
 use hph_fexpr::{Elements, Form};
-use sqlite_items::Items;
+use hph_postfix::{Grammar, PathTest};
+use sqlite_items::{Boxed, Items};
 use std::alloc::Global;
 
-impl<F: Fn(Global, &mut Cursor<'_>, usize, Form) -> Result<Expr, ParseFault>> Grammar<F> {
-    fn one_form(&self, cursor: &mut Cursor<'_>, form: Form) -> Result<Expr, ParseFault>
-        requires { Nests self.now.depth (F.pre self.now.nested) (F.post self.now.nested) }
-        ensures { Reads (spec.one_form (parse self.now.depth) form cursor.old) result cursor.new }
+impl<F: Fn(Global, &mut Cursor<'_>, usize, Form) -> Result<Boxed<Expr>, ParseFault>> Operators<F> {
+    fn one_form(&self, cursor: &mut Cursor<'_>, form: Form) -> Result<Boxed<Expr>, ParseFault>
+        requires { Nests self.now.below.depth (F.pre self.now.below.nested) (F.post self.now.below.nested) }
+        ensures { Reads (spec.one_form (parse self.now.below.depth) form cursor.old) result cursor.new }
     {
         match form {
             Form::Level(least) => self.one_level(cursor, least),
-            Form::Postfix => self.postfix(cursor),
+            Form::Postfix => self.below.postfix(cursor),
         }
     }
 }
@@ -33,18 +33,18 @@ pub fn nested(
     cursor: &mut Cursor<'_>,
     depth: usize,
     form: Form,
-) -> Result<Expr, ParseFault>
+) -> Result<Boxed<Expr>, ParseFault>
     ensures { Reads (parse depth form cursor.old) result cursor.new }
 {
     if depth == 0 {
         return Err(cursor.refuse());
     }
-    Grammar {
+    let below = Grammar {
         alloc,
         depth: depth - 1,
         nested,
-    }
-    .one_form(cursor, form)
+    };
+    Operators { below }.one_form(cursor, form)
 }
 
 /// Paths behind `(`, which nest no deeper than `depth`, and the place of the `)` behind them.

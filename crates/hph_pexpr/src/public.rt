@@ -56,10 +56,13 @@ fn exact(alloc: Global, tokens: &[Token], at: usize) -> Result<(Expr, usize), Pa
 {
     let mut cursor = Cursor::new(tokens_from(tokens, at), tokens.len());
     let found = nested(alloc, &mut cursor, LIMIT, Form::Level(1))?;
-    if !ends(cursor.rest()) || !expr_fits(&found, LIMIT) {
+    if !ends(cursor.rest()) || !expr_fits(found.get(), LIMIT) {
         return Err(cursor.refuse());
     }
-    Ok((found, tokens.len().saturating_sub(cursor.left())))
+    Ok((
+        found.into_inner(),
+        tokens.len().saturating_sub(cursor.left()),
+    ))
 }
 
 /// The expression that the tokens from a place on spell, and the place where it ends: before `;`, `,`, `)`, `]`, `}`,

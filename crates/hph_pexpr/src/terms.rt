@@ -1,45 +1,46 @@
 //! Terms: destructuring, prefix operators, and `++` and `--` before a path.
 
 ghost use Rattle.hph_cursor.specs.Reads.{Reads, ReadsAs};
-ghost use Rattle.hph_pexpr.specs.Nests.{Nests, passes};
+ghost use Rattle.hph_postfix.specs.Nests.{Nests, passes};
 ghost use Rattle.hph_fexpr.specs.Parser.{parse};
 ghost use Rattle.hph_fexpr.specs.Terms as spec;
 
-use crate::grammar::Grammar;
-use crate::primaries::array_of;
+use crate::operators::Operators;
 use hph_ast::{ArrayForm, Expr, Mark, Prefix, Token, Update};
 use hph_cursor::nodes::{destructure_of, pre_update_of, prefix_of};
 use hph_cursor::{Cursor, ParseFault, is_written, on, prefix_level};
 use hph_fexpr::{Elements, Form};
+use hph_postfix::array_of;
+use sqlite_items::Boxed;
 use std::alloc::Global;
 
 const UPDATE_LEVEL: u8 = 21;
 
 pub const ASSIGN_LEVEL: u8 = 5;
 
-impl<F: Fn(Global, &mut Cursor<'_>, usize, Form) -> Result<Expr, ParseFault>> Grammar<F> {
+impl<F: Fn(Global, &mut Cursor<'_>, usize, Form) -> Result<Boxed<Expr>, ParseFault>> Operators<F> {
     #[tactic(auto, unfolding(hph_fexpr::specs::Terms::prefixed))]
-    fn prefixed(&self, cursor: &mut Cursor<'_>, operator: Prefix) -> Result<Expr, ParseFault>
-        requires { Nests self.now.depth (F.pre self.now.nested) (F.post self.now.nested) }
-        ensures { Reads (spec.prefixed (parse self.now.depth) operator cursor.old) result cursor.new }
+    fn prefixed(&self, cursor: &mut Cursor<'_>, operator: Prefix) -> Result<Boxed<Expr>, ParseFault>
+        requires { Nests self.now.below.depth (F.pre self.now.below.nested) (F.post self.now.below.nested) }
+        ensures { Reads (spec.prefixed (parse self.now.below.depth) operator cursor.old) result cursor.new }
     {
         let first = cursor.take()?;
-        let operand = self.level(cursor, prefix_level(operator) + 1)?;
-        Ok(prefix_of(self.alloc, on(first), operator, operand)?)
+        let operand = self.below.level(cursor, prefix_level(operator) + 1)?;
+        Ok(prefix_of(self.below.alloc, on(first), operator, operand)?)
     }
 
     /// `++` or `--` before a path.
     #[tactic(auto, unfolding(hph_fexpr::specs::Terms::pre_updated))]
-    fn pre_updated(&self, cursor: &mut Cursor<'_>, form: Update) -> Result<Expr, ParseFault>
-        requires { Nests self.now.depth (F.pre self.now.nested) (F.post self.now.nested) }
-        ensures { Reads (spec.pre_updated (parse self.now.depth) form cursor.old) result cursor.new }
+    fn pre_updated(&self, cursor: &mut Cursor<'_>, form: Update) -> Result<Boxed<Expr>, ParseFault>
+        requires { Nests self.now.below.depth (F.pre self.now.below.nested) (F.post self.now.below.nested) }
+        ensures { Reads (spec.pre_updated (parse self.now.below.depth) form cursor.old) result cursor.new }
     {
         let first = cursor.take()?;
-        let path = self.postfix(cursor)?;
-        if !is_written(&path) || cursor.binds() > UPDATE_LEVEL {
+        let path = self.below.postfix(cursor)?;
+        if !is_written(path.get()) || cursor.binds() > UPDATE_LEVEL {
             return Err(cursor.refuse());
         }
-        Ok(pre_update_of(self.alloc, on(first), form, path)?)
+        Ok(pre_update_of(self.below.alloc, on(first), form, path)?)
     }
 
     /// At `=`.
@@ -49,13 +50,13 @@ impl<F: Fn(Global, &mut Cursor<'_>, usize, Form) -> Result<Expr, ParseFault>> Gr
         cursor: &mut Cursor<'_>,
         opening: &Token,
         found: Elements,
-    ) -> Result<Expr, ParseFault>
-        requires { Nests self.now.depth (F.pre self.now.nested) (F.post self.now.nested) }
-        ensures { Reads (spec.destructured (parse self.now.depth) opening.now found cursor.old) result cursor.new }
+    ) -> Result<Boxed<Expr>, ParseFault>
+        requires { Nests self.now.below.depth (F.pre self.now.below.nested) (F.post self.now.below.nested) }
+        ensures { Reads (spec.destructured (parse self.now.below.depth) opening.now found cursor.old) result cursor.new }
     {
         cursor.take()?;
-        let value = self.level(cursor, ASSIGN_LEVEL + 1)?;
-        Ok(destructure_of(self.alloc, on(opening), found.items, value)?)
+        let value = self.below.level(cursor, ASSIGN_LEVEL + 1)?;
+        Ok(destructure_of(self.below.alloc, on(opening), found.items, value)?)
     }
 
     #[tactic(auto, unfolding(hph_fexpr::specs::Terms::from_array))]
@@ -64,23 +65,23 @@ impl<F: Fn(Global, &mut Cursor<'_>, usize, Form) -> Result<Expr, ParseFault>> Gr
         cursor: &mut Cursor<'_>,
         opening: &Token,
         found: Elements,
-    ) -> Result<Expr, ParseFault>
-        requires { Nests self.now.depth (F.pre self.now.nested) (F.post self.now.nested) }
-        ensures { Reads (spec.from_array (parse self.now.depth) opening.now found cursor.old) result cursor.new }
+    ) -> Result<Boxed<Expr>, ParseFault>
+        requires { Nests self.now.below.depth (F.pre self.now.below.nested) (F.post self.now.below.nested) }
+        ensures { Reads (spec.from_array (parse self.now.below.depth) opening.now found cursor.old) result cursor.new }
     {
-        let array = array_of(cursor, opening, ArrayForm::Short, found)?;
-        let path = self.goes_on(cursor, array)?;
+        let array = array_of(self.below.alloc, cursor, opening, ArrayForm::Short, found)?;
+        let path = self.below.goes_on(cursor, array)?;
         self.path_used(cursor, path)
     }
 
     /// An array, or the left side of a destructuring.
     #[tactic(auto, unfolding(hph_fexpr::specs::Terms::bracketed))]
-    fn bracketed(&self, cursor: &mut Cursor<'_>) -> Result<Expr, ParseFault>
-        requires { Nests self.now.depth (F.pre self.now.nested) (F.post self.now.nested) }
-        ensures { Reads (spec.bracketed (parse self.now.depth) cursor.old) result cursor.new }
+    fn bracketed(&self, cursor: &mut Cursor<'_>) -> Result<Boxed<Expr>, ParseFault>
+        requires { Nests self.now.below.depth (F.pre self.now.below.nested) (F.post self.now.below.nested) }
+        ensures { Reads (spec.bracketed (parse self.now.below.depth) cursor.old) result cursor.new }
     {
         let opening = cursor.take()?;
-        let found = self.elements(cursor, Mark::CloseBracket)?;
+        let found = self.below.elements(cursor, Mark::CloseBracket)?;
         if cursor.sees_set() {
             self.destructured(cursor, opening, found)
         } else {
@@ -88,22 +89,22 @@ impl<F: Fn(Global, &mut Cursor<'_>, usize, Form) -> Result<Expr, ParseFault>> Gr
         }
     }
 
-    fn operand(&self, cursor: &mut Cursor<'_>) -> Result<Expr, ParseFault>
-        requires { Nests self.now.depth (F.pre self.now.nested) (F.post self.now.nested) }
-        ensures { Reads (spec.operand (parse self.now.depth) cursor.old) result cursor.new }
+    fn operand(&self, cursor: &mut Cursor<'_>) -> Result<Boxed<Expr>, ParseFault>
+        requires { Nests self.now.below.depth (F.pre self.now.below.nested) (F.post self.now.below.nested) }
+        ensures { Reads (spec.operand (parse self.now.below.depth) cursor.old) result cursor.new }
     {
         if cursor.sees(Mark::OpenBracket) {
             return self.bracketed(cursor);
         }
-        let path = self.postfix(cursor)?;
+        let path = self.below.postfix(cursor)?;
         self.path_used(cursor, path)
     }
 
     /// What may stand at either side of an operator.
     #[tactic(auto, unfolding(hph_fexpr::specs::Terms::term))]
-    pub fn term(&self, cursor: &mut Cursor<'_>) -> Result<Expr, ParseFault>
-        requires { Nests self.now.depth (F.pre self.now.nested) (F.post self.now.nested) }
-        ensures { Reads (spec.term (parse self.now.depth) cursor.old) result cursor.new }
+    pub fn term(&self, cursor: &mut Cursor<'_>) -> Result<Boxed<Expr>, ParseFault>
+        requires { Nests self.now.below.depth (F.pre self.now.below.nested) (F.post self.now.below.nested) }
+        ensures { Reads (spec.term (parse self.now.below.depth) cursor.old) result cursor.new }
     {
         if let Some(operator) = cursor.prefix() {
             return self.prefixed(cursor, operator);

@@ -1,7 +1,7 @@
 //! What is done with a path: it is read, assigned to, bound to another, or updated by `++` or `--` behind it.
 
 ghost use Rattle.hph_cursor.specs.Reads.{Reads, ReadsAs};
-ghost use Rattle.hph_pexpr.specs.Nests.{Nests};
+ghost use Rattle.hph_postfix.specs.Nests.{Nests};
 ghost use Rattle.hph_fexpr.specs.Parser.{parse};
 ghost use Rattle.std.specs.Prelude.{suc, Some, None, if◌then◌else◌};
 ghost use Rattle.hph_ast.specs.declared.expr.Expr.TheVariants as e;
@@ -10,64 +10,65 @@ ghost use Rattle.hph_ast.specs.Places as places;
 ghost use Rattle.hph_ast.specs.Shapes.{is_read, is_written, is_source};
 ghost use Rattle.hph_fexpr.specs.Terms as spec;
 
-use crate::grammar::Grammar;
+use crate::operators::Operators;
 use crate::terms::ASSIGN_LEVEL;
 use hph_ast::{Assignment, Expr, Update};
 use hph_cursor::nodes::{assign_of, assign_reference_of, post_update_of};
 use hph_cursor::{Cursor, ParseFault, is_read, is_set, is_source, is_written, on};
 use hph_fexpr::Form;
+use sqlite_items::Boxed;
 use std::alloc::Global;
 
 /// A path that is read, behind which nothing stands that writes it.
-fn read(cursor: &Cursor<'_>, path: Expr) -> Result<Expr, ParseFault>
+fn read(cursor: &Cursor<'_>, path: Boxed<Expr>) -> Result<Boxed<Expr>, ParseFault>
     ensures { Reads (if is_read path then Some (path, cursor.now) else None) result cursor.now }
 {
-    if !is_read(&path) {
+    if !is_read(path.get()) {
         return Err(cursor.refuse());
     }
     Ok(path)
 }
 
-impl<F: Fn(Global, &mut Cursor<'_>, usize, Form) -> Result<Expr, ParseFault>> Grammar<F> {
+impl<F: Fn(Global, &mut Cursor<'_>, usize, Form) -> Result<Boxed<Expr>, ParseFault>> Operators<F> {
     /// `++` or `--` behind a path.
     #[tactic(auto, unfolding(hph_fexpr::specs::Terms::post_updated))]
     fn post_updated(
         &self,
         cursor: &mut Cursor<'_>,
-        path: Expr,
+        path: Boxed<Expr>,
         form: Update,
-    ) -> Result<Expr, ParseFault>
-        requires { Nests self.now.depth (F.pre self.now.nested) (F.post self.now.nested) }
-        ensures { Reads (spec.post_updated (parse self.now.depth) path form cursor.old) result cursor.new }
+    ) -> Result<Boxed<Expr>, ParseFault>
+        requires { Nests self.now.below.depth (F.pre self.now.below.nested) (F.post self.now.below.nested) }
+        ensures { Reads (spec.post_updated (parse self.now.below.depth) path form cursor.old) result cursor.new }
     {
         let last = cursor.take()?;
-        Ok(post_update_of(self.alloc, path, form, on(last))?)
+        Ok(post_update_of(self.below.alloc, path, form, on(last))?)
     }
 
     /// Behind the path that is bound, which is to be a source.
     fn bound_to(
         &self,
         cursor: &Cursor<'_>,
-        target: Expr,
-        source: Expr,
+        target: Boxed<Expr>,
+        source: Boxed<Expr>,
         ampersand: u32,
-    ) -> Result<Expr, ParseFault>
+    ) -> Result<Boxed<Expr>, ParseFault>
         ensures { Reads (if is_source source then spec.stopped (suc assign_level) (e.AssignReference (places.span (places.place target) (places.place source)) target source ampersand) cursor.now else None) result cursor.now }
     {
-        if !is_source(&source) || cursor.binds() > ASSIGN_LEVEL {
+        if !is_source(source.get()) || cursor.binds() > ASSIGN_LEVEL {
             return Err(cursor.refuse());
         }
-        Ok(assign_reference_of(self.alloc, target, source, ampersand)?)
+        Ok(assign_reference_of(self.below.alloc, target, source, ampersand)?)
     }
 
     /// Behind `=`, at `&`.
     #[tactic(auto, unfolding(hph_fexpr::specs::Terms::bound))]
-    fn bound(&self, cursor: &mut Cursor<'_>, target: Expr) -> Result<Expr, ParseFault>
-        requires { Nests self.now.depth (F.pre self.now.nested) (F.post self.now.nested) }
-        ensures { Reads (spec.bound (parse self.now.depth) target cursor.old) result cursor.new }
+    fn bound(&self, cursor: &mut Cursor<'_>, target: Boxed<Expr>) -> Result<Boxed<Expr>, ParseFault>
+        requires { Nests self.now.below.depth (F.pre self.now.below.nested) (F.post self.now.below.nested) }
+        ensures { Reads (spec.bound (parse self.now.below.depth) target cursor.old) result cursor.new }
     {
         let ampersand = cursor.take()?;
-        let source = self.postfix(cursor)?;
+        let source = self.below.postfix(cursor)?;
         self.bound_to(cursor, target, source, ampersand.start)
     }
 
@@ -75,14 +76,14 @@ impl<F: Fn(Global, &mut Cursor<'_>, usize, Form) -> Result<Expr, ParseFault>> Gr
     fn valued_by(
         &self,
         cursor: &mut Cursor<'_>,
-        target: Expr,
+        target: Boxed<Expr>,
         operator: Assignment,
-    ) -> Result<Expr, ParseFault>
-        requires { Nests self.now.depth (F.pre self.now.nested) (F.post self.now.nested) }
-        ensures { Reads (spec.valued_by (parse self.now.depth) target operator cursor.old) result cursor.new }
+    ) -> Result<Boxed<Expr>, ParseFault>
+        requires { Nests self.now.below.depth (F.pre self.now.below.nested) (F.post self.now.below.nested) }
+        ensures { Reads (spec.valued_by (parse self.now.below.depth) target operator cursor.old) result cursor.new }
     {
-        let value = self.level(cursor, ASSIGN_LEVEL + 1)?;
-        Ok(assign_of(self.alloc, operator, target, value)?)
+        let value = self.below.level(cursor, ASSIGN_LEVEL + 1)?;
+        Ok(assign_of(self.below.alloc, operator, target, value)?)
     }
 
     /// At an assignment operator.
@@ -90,11 +91,11 @@ impl<F: Fn(Global, &mut Cursor<'_>, usize, Form) -> Result<Expr, ParseFault>> Gr
     fn assigned(
         &self,
         cursor: &mut Cursor<'_>,
-        target: Expr,
+        target: Boxed<Expr>,
         operator: Assignment,
-    ) -> Result<Expr, ParseFault>
-        requires { Nests self.now.depth (F.pre self.now.nested) (F.post self.now.nested) }
-        ensures { Reads (spec.assigned (parse self.now.depth) target operator cursor.old) result cursor.new }
+    ) -> Result<Boxed<Expr>, ParseFault>
+        requires { Nests self.now.below.depth (F.pre self.now.below.nested) (F.post self.now.below.nested) }
+        ensures { Reads (spec.assigned (parse self.now.below.depth) target operator cursor.old) result cursor.new }
     {
         cursor.take()?;
         if is_set(operator) && cursor.sees_ampersand() {
@@ -105,11 +106,16 @@ impl<F: Fn(Global, &mut Cursor<'_>, usize, Form) -> Result<Expr, ParseFault>> Gr
     }
 
     /// A path behind which `++` or `--` stands.
-    fn updated(&self, cursor: &mut Cursor<'_>, path: Expr, form: Update) -> Result<Expr, ParseFault>
-        requires { Nests self.now.depth (F.pre self.now.nested) (F.post self.now.nested) }
-        ensures { Reads (if is_written path then spec.post_updated (parse self.now.depth) path form cursor.old else None) result cursor.new }
+    fn updated(
+        &self,
+        cursor: &mut Cursor<'_>,
+        path: Boxed<Expr>,
+        form: Update,
+    ) -> Result<Boxed<Expr>, ParseFault>
+        requires { Nests self.now.below.depth (F.pre self.now.below.nested) (F.post self.now.below.nested) }
+        ensures { Reads (if is_written path then spec.post_updated (parse self.now.below.depth) path form cursor.old else None) result cursor.new }
     {
-        if !is_written(&path) {
+        if !is_written(path.get()) {
             return Err(cursor.refuse());
         }
         self.post_updated(cursor, path, form)
@@ -119,13 +125,13 @@ impl<F: Fn(Global, &mut Cursor<'_>, usize, Form) -> Result<Expr, ParseFault>> Gr
     fn written(
         &self,
         cursor: &mut Cursor<'_>,
-        path: Expr,
+        path: Boxed<Expr>,
         operator: Assignment,
-    ) -> Result<Expr, ParseFault>
-        requires { Nests self.now.depth (F.pre self.now.nested) (F.post self.now.nested) }
-        ensures { Reads (if is_written path then spec.assigned (parse self.now.depth) path operator cursor.old else None) result cursor.new }
+    ) -> Result<Boxed<Expr>, ParseFault>
+        requires { Nests self.now.below.depth (F.pre self.now.below.nested) (F.post self.now.below.nested) }
+        ensures { Reads (if is_written path then spec.assigned (parse self.now.below.depth) path operator cursor.old else None) result cursor.new }
     {
-        if !is_written(&path) {
+        if !is_written(path.get()) {
             return Err(cursor.refuse());
         }
         self.assigned(cursor, path, operator)
@@ -133,9 +139,13 @@ impl<F: Fn(Global, &mut Cursor<'_>, usize, Form) -> Result<Expr, ParseFault>> Gr
 
     /// What stands behind a path.
     #[tactic(auto, unfolding(hph_fexpr::specs::Terms::path_used))]
-    pub fn path_used(&self, cursor: &mut Cursor<'_>, path: Expr) -> Result<Expr, ParseFault>
-        requires { Nests self.now.depth (F.pre self.now.nested) (F.post self.now.nested) }
-        ensures { Reads (spec.path_used (parse self.now.depth) path cursor.old) result cursor.new }
+    pub fn path_used(
+        &self,
+        cursor: &mut Cursor<'_>,
+        path: Boxed<Expr>,
+    ) -> Result<Boxed<Expr>, ParseFault>
+        requires { Nests self.now.below.depth (F.pre self.now.below.nested) (F.post self.now.below.nested) }
+        ensures { Reads (spec.path_used (parse self.now.below.depth) path cursor.old) result cursor.new }
     {
         if let Some(form) = cursor.post_update() {
             return self.updated(cursor, path, form);

@@ -1,6 +1,6 @@
 //! Branches (PHP manual, if, else, elseif).
 
-ghost use Rattle.std.specs.Prelude.{IfOk, ◌≡◌};
+ghost use Rattle.std.specs.Prelude.{◌≡◌};
 ghost use Rattle.hph_ast.specs.Places as places;
 ghost use Rattle.hph_ast.specs.Statements as grammar;
 ghost use Rattle.hph_ast.specs.declared.stmt.Statement.TheVariants as s;
@@ -19,33 +19,32 @@ use hph_parts::ends::ends_branches;
 use hph_parts::places::{last_part, statement_place};
 use hph_parts::words::sees_keyword;
 use sqlite_items::{Boxed, Items};
-use std::alloc::{AllocError, Global};
+use std::alloc::Global;
 
 /// The first branch of an `if`.
 #[derive(Drop)]
 pub struct FirstBranch {
-    pub test: Expr,
-    pub body: Statement,
+    pub test: Boxed<Expr>,
+    pub body: Boxed<Statement>,
 }
 
 fn if_of(
-    alloc: Global,
     token: &Token,
     first: FirstBranch,
     more: Items<ElseIf>,
     other: Option<Boxed<Statement>>,
-) -> Result<Statement, AllocError>
-    ensures { IfOk result (λ r. r ≡ s.If (places.span (places.on token.now) (grammar.last_part (grammar.statement_place first.body) more other)) first.test first.body more other) }
+) -> Statement
+    ensures { result ≡ s.If (places.span (places.on token.now) (grammar.last_part (grammar.statement_place first.body) more other)) first.test first.body more other }
 {
-    let last = last_part(statement_place(&first.body), more.as_slice(), &other);
+    let last = last_part(statement_place(first.body.get()), more.as_slice(), &other);
     let FirstBranch { test, body } = first;
-    Ok(Statement::If {
+    Statement::If {
         at: span(on(token), last),
-        test,
-        body: Boxed::new(alloc, body)?,
+        test: test.into_inner(),
+        body,
         more,
         other,
-    })
+    }
 }
 
 impl<
@@ -61,7 +60,10 @@ impl<
         cursor.take()?;
         let test = self.parts.test(cursor)?;
         let body = self.nested(cursor)?;
-        Ok(ElseIf { test, body })
+        Ok(ElseIf {
+            test: test.into_inner(),
+            body,
+        })
     }
 
     fn else_ifs(&self, cursor: &mut Cursor<'_>) -> Result<Items<ElseIf>, ParseFault>
@@ -108,7 +110,7 @@ impl<
         ensures { Reads (statements.last_branch spec.expressions (spec.nested self.now.depth) token.now first.test first.body more cursor.old) result cursor.new }
     {
         let other = self.otherwise(cursor)?;
-        Ok(if_of(self.parts.alloc, token, first, more, other)?)
+        Ok(if_of(token, first, more, other))
     }
 
     /// Behind the first branch.
@@ -134,7 +136,7 @@ impl<
     {
         let token = cursor.take()?;
         let test = self.parts.test(cursor)?;
-        let body = self.nested(cursor)?;
+        let body = Boxed::new(self.parts.alloc, self.nested(cursor)?)?;
         self.branches(cursor, token, FirstBranch { test, body })
     }
 }

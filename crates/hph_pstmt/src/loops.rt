@@ -23,16 +23,17 @@ use std::alloc::{AllocError, Global};
 fn while_of(
     alloc: Global,
     token: &Token,
-    test: Expr,
+    test: Boxed<Expr>,
     body: Statement,
 ) -> Result<Statement, AllocError>
     ensures { IfOk result (λ r. r ≡ s.While (places.span (places.on token.now) (grammar.statement_place body)) test body) }
 {
     let at = span(on(token), statement_place(&body));
+    let body = Boxed::new(alloc, body)?;
     Ok(Statement::While {
         at,
-        test,
-        body: Boxed::new(alloc, body)?,
+        test: test.into_inner(),
+        body,
     })
 }
 
@@ -67,7 +68,7 @@ fn for_of(
 /// What a `foreach` goes over, and what a turn sets.
 #[derive(Drop)]
 pub struct ForeachHead {
-    pub subject: Expr,
+    pub subject: Boxed<Expr>,
     pub key: Option<Identifier>,
     pub value: ForeachTarget,
 }
@@ -89,7 +90,7 @@ fn foreach_of(
     } = head;
     Ok(Statement::Foreach {
         at,
-        subject,
+        subject: subject.into_inner(),
         key,
         value,
         body,
@@ -126,7 +127,7 @@ impl<
         Ok(Statement::DoWhile {
             at: span(on(token), on(close)),
             body,
-            test,
+            test: test.into_inner(),
         })
     }
 
@@ -178,7 +179,7 @@ impl<
         &self,
         cursor: &mut Cursor<'_>,
         token: &Token,
-        subject: Expr,
+        subject: Boxed<Expr>,
     ) -> Result<Statement, ParseFault>
         requires { Nests self.now.depth (S.pre self.now.statement) (S.post self.now.statement) }
         ensures { Reads (statements.foreach_as spec.expressions (spec.nested self.now.depth) token.now subject cursor.old) result cursor.new }

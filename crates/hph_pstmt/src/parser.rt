@@ -15,8 +15,9 @@ use hph_ast::{At, Expr, FileTree, Mark, Token};
 use hph_cursor::{Cursor, ParseFault};
 use hph_fexpr::{Elements, Form};
 use hph_parts::Expressions;
-use hph_pexpr::{PathTest, nested, nested_elements, nested_paths};
-use sqlite_items::Items;
+use hph_pexpr::{nested, nested_elements, nested_paths};
+use hph_postfix::PathTest;
+use sqlite_items::{Boxed, Items};
 use std::alloc::Global;
 
 /// The parser of expressions, as deep as a file's may be nested.
@@ -25,7 +26,7 @@ struct FileExpressions;
 
 impl Expressions for FileExpressions {
     #[tactic(auto, unfolding(hph_fstmt::specs::Parser::expressions))]
-    fn expression(&self, alloc: Global, cursor: &mut Cursor<'_>) -> Result<Expr, ParseFault>
+    fn expression(&self, alloc: Global, cursor: &mut Cursor<'_>) -> Result<Boxed<Expr>, ParseFault>
         ensures { Reads (spec.expressions (Level 1) cursor.old) result cursor.new }
     {
         nested(alloc, cursor, DEEPEST, Form::Level(1))

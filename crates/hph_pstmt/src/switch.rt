@@ -14,11 +14,11 @@ use crate::grammar::Grammar;
 use hph_ast::{At, Case, Expr, Mark, Statement, Token};
 use hph_cursor::{Cursor, ParseFault, on, span};
 use hph_parts::Expressions;
-use hph_parts::cases::switch_of;
+use hph_parts::cases::{switch_of, unboxed};
 use hph_parts::ends::ends_braces;
 use hph_parts::places::last_statement;
 use hph_parts::words::here;
-use sqlite_items::Items;
+use sqlite_items::{Boxed, Items};
 use std::alloc::Global;
 
 impl<
@@ -34,7 +34,7 @@ impl<
         let body = self.statements(cursor)?;
         Ok(Case {
             at: span(at, last_statement(on(close), body.as_slice())),
-            test,
+            test: unboxed(test),
             body,
         })
     }
@@ -85,7 +85,7 @@ impl<
         &self,
         cursor: &mut Cursor<'_>,
         token: &Token,
-        subject: Expr,
+        subject: Boxed<Expr>,
     ) -> Result<Statement, ParseFault>
         requires { Nests self.now.depth (S.pre self.now.statement) (S.post self.now.statement) }
         ensures { Reads (statements.switch_cases spec.expressions (spec.nested self.now.depth) token.now subject cursor.old) result cursor.new }

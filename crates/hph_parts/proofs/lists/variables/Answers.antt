@@ -3,7 +3,7 @@ use Rattle.std.proofs.lemmas.Grind.{common_steps}
 use Rattle.hph_fstmt.specs.Repeats as repeats
 use Rattle.hph_fstmt.specs.Words as words
 use Rattle.hph_ast.specs.declared.token.Mark.TheVariants.{Semicolon}
-use Rattle.hph_parts.proofs.Turns.{one_more, no_more}
+use Rattle.hph_cursor.proofs.Turns.{one_more, no_more}
 use Rattle.hph_parts.proofs.lists.variables.Goals as goal
 
 pub returns-in_err-variable : goal.returns-in_err-variable

@@ -1,6 +1,6 @@
 use Rattle.std.proofs.Common.{◌≡◌, ap, arith}
 use Rattle.hph_fexpr.specs.Parser.{parse}
-use Rattle.hph_pexpr.proofs.Turns.{deeper}
+use Rattle.hph_cursor.proofs.Turns.{deeper}
 use Rattle.hph_pexpr.proofs.parser.+nested.Goals as goal
 
 pub returns-then-depth-eq0 : goal.returns-then-depth-eq0

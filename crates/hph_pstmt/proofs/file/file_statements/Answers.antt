@@ -4,7 +4,7 @@ use Rattle.hph_fstmt.specs.Repeats as repeats
 use Rattle.hph_fstmt.specs.Statements as statements
 use Rattle.hph_fstmt.specs.Parser as spec
 use Rattle.std.specs.Prelude.{true}
-use Rattle.hph_parts.proofs.Turns.{one_more, no_more}
+use Rattle.hph_cursor.proofs.Turns.{one_more, no_more}
 use Rattle.hph_pstmt.proofs.file.file_statements.Goals as goal
 
 pub returns-then-ends_statements : goal.returns-then-ends_statements

@@ -1,7 +1,7 @@
 use Rattle.std.proofs.Common.{◌≡◌, ap, arith}
 use Rattle.std.specs.Prelude.{true}
 use Rattle.hph_fstmt.specs.Parser.{expressions, nested, statement}
-use Rattle.hph_parts.proofs.Turns.{deeper}
+use Rattle.hph_cursor.proofs.Turns.{deeper}
 use Rattle.hph_pstmt.proofs.statement.file_statement.Goals as goal
 
 pub returns-then-depth-eq0 : goal.returns-then-depth-eq0

@@ -3,7 +3,7 @@ use Rattle.std.proofs.lemmas.Grind.{common_steps}
 use Rattle.hph_fstmt.specs.Repeats as repeats
 use Rattle.hph_fstmt.specs.Parser as spec
 use Rattle.hph_fexpr.specs.declared.form.Form.TheVariants.{Level}
-use Rattle.hph_parts.proofs.Turns.{one_more, no_more}
+use Rattle.hph_cursor.proofs.Turns.{one_more, no_more}
 use Rattle.hph_parts.proofs.parts.Parts.exprs.Goals as goal
 
 pub returns-in_err-expr : goal.returns-in_err-expr

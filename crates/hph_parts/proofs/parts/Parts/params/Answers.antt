@@ -2,7 +2,7 @@ use Rattle.std.proofs.Common.{rules, arith}
 use Rattle.std.proofs.lemmas.Grind.{common_steps}
 use Rattle.hph_fstmt.specs.Declarations as declarations
 use Rattle.hph_fstmt.specs.Parser as spec
-use Rattle.hph_parts.proofs.Turns.{one_more, no_more}
+use Rattle.hph_cursor.proofs.Turns.{one_more, no_more}
 use Rattle.hph_parts.proofs.parts.Parts.params.Goals as goal
 
 pub returns-then-sees : goal.returns-then-sees

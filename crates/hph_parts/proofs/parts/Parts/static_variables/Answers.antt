@@ -4,7 +4,7 @@ use Rattle.hph_fstmt.specs.Repeats as repeats
 use Rattle.hph_fstmt.specs.Declarations as declarations
 use Rattle.hph_fstmt.specs.Parser as spec
 use Rattle.hph_ast.specs.declared.token.Mark.TheVariants.{Semicolon}
-use Rattle.hph_parts.proofs.Turns.{one_more, no_more}
+use Rattle.hph_cursor.proofs.Turns.{one_more, no_more}
 use Rattle.hph_parts.proofs.parts.Parts.static_variables.Goals as goal
 
 pub returns-in_err-static_variable : goal.returns-in_err-static_variable

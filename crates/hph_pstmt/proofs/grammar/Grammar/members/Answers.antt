@@ -5,7 +5,7 @@ use Rattle.hph_fstmt.specs.Statements as statements
 use Rattle.hph_fstmt.specs.Parser as spec
 use Rattle.hph_ast.specs.declared.token.Mark.TheVariants.{CloseBrace}
 use Rattle.hph_cursor.specs.Steps as steps
-use Rattle.hph_parts.proofs.Turns.{one_more, no_more}
+use Rattle.hph_cursor.proofs.Turns.{one_more, no_more}
 use Rattle.hph_pstmt.proofs.grammar.Grammar.members.Goals as goal
 
 pub returns-then-ends_braces : goal.returns-then-ends_braces
