@@ -13,8 +13,6 @@ mod expressions;
 mod names;
 mod shapes;
 mod statements;
-#[cfg(test)]
-mod tests;
 mod tokens;
 
 pub use statements::tree_construct;

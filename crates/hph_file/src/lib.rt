@@ -7,8 +7,6 @@
 mod fault;
 mod laws;
 mod reading;
-#[cfg(test)]
-mod tests;
 
 pub use fault::FileFault;
 pub use laws::{one_first_fault, one_tree};

@@ -4,7 +4,13 @@
 #![tactic(auto)]
 
 #[cfg(test)]
+mod constructs;
+#[cfg(test)]
 mod expressions;
+#[cfg(test)]
+mod files;
+#[cfg(test)]
+mod nesting;
 #[cfg(test)]
 mod operators;
 #[cfg(test)]

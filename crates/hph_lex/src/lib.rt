@@ -28,6 +28,3 @@ mod word;
 pub use fault::LexFault;
 pub use file::tokens;
 pub use laws::{every_file_is_read, first_mark_is_longest, one_reading};
-
-#[cfg(test)]
-mod tests;

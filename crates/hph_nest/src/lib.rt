@@ -8,6 +8,3 @@ mod fits;
 
 pub use constant::is_constant;
 pub use fits::file_fits;
-
-#[cfg(test)]
-mod tests;

@@ -13,8 +13,6 @@ mod number;
 mod numeral;
 mod piece;
 mod single;
-#[cfg(test)]
-mod tests;
 
 pub use laws::{
     number_or_none, one_number, one_piece, one_single_quoted, piece_or_none, pieces_end,

@@ -14,8 +14,6 @@ mod module;
 mod module_fault;
 mod sections;
 mod segments;
-#[cfg(test)]
-mod tests;
 
 pub use module::{read, read_written};
 pub use module_fault::ModuleFault;

@@ -18,8 +18,6 @@ mod numbers;
 mod opcodes;
 mod part;
 mod plain;
-#[cfg(test)]
-mod tests;
 mod types;
 
 pub use blocks::expression;

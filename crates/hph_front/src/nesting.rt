@@ -1,5 +1,5 @@
-use crate::{file_fits, is_constant};
 use hph_ast::{At, Expr, FileTree, Prefix, Statement};
+use hph_nest::{file_fits, is_constant};
 use sqlite_items::{Boxed, Items};
 use std::alloc::Global;
 use std::test::Fail;

@@ -1,9 +1,8 @@
 //! Rows of the Core Specification 1.0 (5.5) on which bytes are modules, worked out by hand.
 ghost use Rattle.std.specs.Prelude.{◌<◌, ◌^◌, length};
 
-use crate::module_fault::ModuleFault;
-use crate::read;
 use hph_wasm::Feature;
+use hph_wdec::{ModuleFault, read};
 use std::alloc::Global;
 use std::test::Fail;
 

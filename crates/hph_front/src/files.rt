@@ -1,6 +1,6 @@
 //! Files with their trees and their first faults, by the rules of docs/LANGUAGE.md.
-use crate::{FileFault, read};
 use hph_ast::{Construct, LexKind};
+use hph_file::{FileFault, read};
 use std::test::Fail;
 
 #[test]

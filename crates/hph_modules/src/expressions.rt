@@ -1,6 +1,6 @@
 //! Expressions whose bytes were written by hand from the Core Specification 1.0, 5.4.
-use crate::{Fault, expression};
 use hph_wasm::{Feature, Instr};
+use hph_wread::{Fault, expression};
 use std::alloc::Global;
 use std::test::Fail;
 

@@ -1,5 +1,5 @@
 //! Rows of this project's list of refused constructs, on tokens and trees that are put together by hand.
-use crate::{token_construct, tree_construct};
+use hph_accept::{token_construct, tree_construct};
 use hph_ast::{At, Construct, Expr, FileTree, Keyword, Kind, Mark, Statement, Token};
 use sqlite_items::{Boxed, Items};
 use std::alloc::{AllocError, Global};

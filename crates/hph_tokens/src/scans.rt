@@ -1,6 +1,6 @@
 //! What PHP 8.2 reads, in texts as its own `echo` prints them; which digits are faults, and what is left of a piece, is
 //! this project's own.
-use crate::{Number, QuotedPiece, scan_number, scan_quoted_piece, scan_single_quoted};
+use hph_scan::{Number, QuotedPiece, scan_number, scan_quoted_piece, scan_single_quoted};
 use std::alloc::Global;
 use std::process::Abort;
 use std::test::Fail;

@@ -1,5 +1,5 @@
-use crate::{LexFault, tokens};
 use hph_ast::{Construct, Kind, LexKind, Token};
+use hph_lex::{LexFault, tokens};
 use std::alloc::{AllocError, Global};
 use std::process::Abort;
 use std::test::Fail;
