@@ -3,35 +3,51 @@ ghost use Rattle.hph_case.specs.Fatals.{fatals};
 
 use crate::cases::{Cases, Row};
 
-/// The kinds of fatal errors that end a program (this project's own). Each tag is 0.
+/// The one list of the kinds of fatal errors that end a program, with their codes (this project's own). It calls the macro `then` with what is given behind
+/// it, in brackets, and the rows `Variant = code;`.
+#[macro_export]
+macro_rules! fatal_rows {
+    ($then:ident $($given:tt)*) => {
+        $then! {
+            [$($given)*]
+            Overflow = 1;
+            Float = 2;
+            DivZero = 3;
+            NegativeShift = 4;
+            BadOperand = 5;
+            ObjectUse = 6;
+            StringIncrement = 7;
+            ArrayOrder = 8;
+            ObjectCompare = 9;
+            IllegalOffset = 10;
+            AppendFull = 11;
+            StringOffset = 12;
+            ScalarWrite = 13;
+            TooFewArguments = 14;
+            BadArgument = 15;
+            UndefinedFunction = 16;
+            UndefinedClass = 17;
+            UndefinedMethod = 18;
+            UndefinedProperty = 19;
+            UndefinedConstant = 20;
+            Redeclare = 21;
+            NotObject = 22;
+            Inaccessible = 23;
+            StaticCall = 24;
+            Misuse = 25;
+        }
+    };
+}
+
+macro_rules! without_tags {
+    ([] $($variant:ident = $code:literal;)*) => {
+        Cases { rows: [$(Row { code: $code, tag: 0 },)*] }
+    };
+}
+
+/// The kinds of fatal errors. Each tag is 0.
 pub fn fatals() -> Cases<25>
     ensures { result.rows ≡ fatals }
 {
-    cases! {
-        1 => 0, // Overflow
-        2 => 0, // Float
-        3 => 0, // DivZero
-        4 => 0, // NegativeShift
-        5 => 0, // BadOperand
-        6 => 0, // ObjectUse
-        7 => 0, // StringIncrement
-        8 => 0, // ArrayOrder
-        9 => 0, // ObjectCompare
-        10 => 0, // IllegalOffset
-        11 => 0, // AppendFull
-        12 => 0, // StringOffset
-        13 => 0, // ScalarWrite
-        14 => 0, // TooFewArguments
-        15 => 0, // BadArgument
-        16 => 0, // UndefinedFunction
-        17 => 0, // UndefinedClass
-        18 => 0, // UndefinedMethod
-        19 => 0, // UndefinedProperty
-        20 => 0, // UndefinedConstant
-        21 => 0, // Redeclare
-        22 => 0, // NotObject
-        23 => 0, // Inaccessible
-        24 => 0, // StaticCall
-        25 => 0, // Misuse
-    }
+    fatal_rows!(without_tags)
 }

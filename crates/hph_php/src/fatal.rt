@@ -2,6 +2,8 @@ ghost use Rattle.std.specs.Prelude.{◌≡◌, IfSome, Some};
 ghost use Rattle.hph_php.specs.declared.fatal.Fatal.{Fatal};
 ghost use Rattle.hph_php.specs.Codes.{fatal_code, fatal_name, all_fatals, fatal_with};
 
+use hph_case::fatal_rows;
+
 /// A kind of fatal error, which ends a program. The kinds are this project's own; where PHP has an exception or an error
 /// of its own for one, it is named.
 #[derive(Clone, Copy, Debug, PartialEq, Eq)]
@@ -58,39 +60,35 @@ pub enum Fatal {
     Misuse,
 }
 
+macro_rules! variants {
+    ([] $($variant:ident = $code:literal;)*) => {
+        [$(Fatal::$variant,)*]
+    };
+}
+
+macro_rules! code_of {
+    ([$($kind:tt)*] $($variant:ident = $code:literal;)*) => {
+        match $($kind)* {
+            $(Fatal::$variant => $code,)*
+        }
+    };
+}
+
+macro_rules! name_of {
+    ([$($kind:tt)*] $($variant:ident = $code:literal;)*) => {
+        match $($kind)* {
+            $(Fatal::$variant => stringify!($variant),)*
+        }
+    };
+}
+
 impl Fatal {
     /// All kinds of fatal errors, in the order of their codes.
     #[tactic(auto, unfolding(crate::specs::Codes::all_fatals))]
     pub fn all() -> [Fatal; 25]
         ensures { result ≡ all_fatals }
     {
-        [
-            Fatal::Overflow,
-            Fatal::Float,
-            Fatal::DivZero,
-            Fatal::NegativeShift,
-            Fatal::BadOperand,
-            Fatal::ObjectUse,
-            Fatal::StringIncrement,
-            Fatal::ArrayOrder,
-            Fatal::ObjectCompare,
-            Fatal::IllegalOffset,
-            Fatal::AppendFull,
-            Fatal::StringOffset,
-            Fatal::ScalarWrite,
-            Fatal::TooFewArguments,
-            Fatal::BadArgument,
-            Fatal::UndefinedFunction,
-            Fatal::UndefinedClass,
-            Fatal::UndefinedMethod,
-            Fatal::UndefinedProperty,
-            Fatal::UndefinedConstant,
-            Fatal::Redeclare,
-            Fatal::NotObject,
-            Fatal::Inaccessible,
-            Fatal::StaticCall,
-            Fatal::Misuse,
-        ]
+        fatal_rows!(variants)
     }
 
     /// The code of the kind, this project's own.
@@ -99,33 +97,7 @@ impl Fatal {
         ensures value { result ≡ fatal_code self }
         ensures inverse { fatal_with (fatal_code self) ≡ Some self }
     {
-        match self {
-            Fatal::Overflow => 1,
-            Fatal::Float => 2,
-            Fatal::DivZero => 3,
-            Fatal::NegativeShift => 4,
-            Fatal::BadOperand => 5,
-            Fatal::ObjectUse => 6,
-            Fatal::StringIncrement => 7,
-            Fatal::ArrayOrder => 8,
-            Fatal::ObjectCompare => 9,
-            Fatal::IllegalOffset => 10,
-            Fatal::AppendFull => 11,
-            Fatal::StringOffset => 12,
-            Fatal::ScalarWrite => 13,
-            Fatal::TooFewArguments => 14,
-            Fatal::BadArgument => 15,
-            Fatal::UndefinedFunction => 16,
-            Fatal::UndefinedClass => 17,
-            Fatal::UndefinedMethod => 18,
-            Fatal::UndefinedProperty => 19,
-            Fatal::UndefinedConstant => 20,
-            Fatal::Redeclare => 21,
-            Fatal::NotObject => 22,
-            Fatal::Inaccessible => 23,
-            Fatal::StaticCall => 24,
-            Fatal::Misuse => 25,
-        }
+        fatal_rows!(code_of self)
     }
 
     /// The one of this code, or None where there is none.
@@ -141,32 +113,6 @@ impl Fatal {
     pub fn name(self) -> &'static str
         ensures { result.now ≡ fatal_name self }
     {
-        match self {
-            Fatal::Overflow => "Overflow",
-            Fatal::Float => "Float",
-            Fatal::DivZero => "DivZero",
-            Fatal::NegativeShift => "NegativeShift",
-            Fatal::BadOperand => "BadOperand",
-            Fatal::ObjectUse => "ObjectUse",
-            Fatal::StringIncrement => "StringIncrement",
-            Fatal::ArrayOrder => "ArrayOrder",
-            Fatal::ObjectCompare => "ObjectCompare",
-            Fatal::IllegalOffset => "IllegalOffset",
-            Fatal::AppendFull => "AppendFull",
-            Fatal::StringOffset => "StringOffset",
-            Fatal::ScalarWrite => "ScalarWrite",
-            Fatal::TooFewArguments => "TooFewArguments",
-            Fatal::BadArgument => "BadArgument",
-            Fatal::UndefinedFunction => "UndefinedFunction",
-            Fatal::UndefinedClass => "UndefinedClass",
-            Fatal::UndefinedMethod => "UndefinedMethod",
-            Fatal::UndefinedProperty => "UndefinedProperty",
-            Fatal::UndefinedConstant => "UndefinedConstant",
-            Fatal::Redeclare => "Redeclare",
-            Fatal::NotObject => "NotObject",
-            Fatal::Inaccessible => "Inaccessible",
-            Fatal::StaticCall => "StaticCall",
-            Fatal::Misuse => "Misuse",
-        }
+        fatal_rows!(name_of self)
     }
 }

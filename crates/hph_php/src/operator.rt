@@ -3,6 +3,8 @@ ghost use Rattle.hph_php.specs.declared.operator.BinOp.{BinOp};
 ghost use Rattle.hph_php.specs.declared.operator.UnOp.{UnOp};
 ghost use Rattle.hph_php.specs.Codes.{binary_code, binary_operators, binary_with, unary_code, unary_operators, unary_with};
 
+use hph_case::{binary_operator_rows, unary_operator_rows};
+
 /// A binary operator on values (PHP manual, Operators), in the order of its codes.
 #[derive(Clone, Copy, Debug, PartialEq, Eq)]
 pub enum BinOp {
@@ -31,36 +33,27 @@ pub enum BinOp {
     LogicalXor,
 }
 
+macro_rules! binary_variants {
+    ([] $($variant:ident = $code:literal, $sign:literal;)*) => {
+        [$(BinOp::$variant,)*]
+    };
+}
+
+macro_rules! binary_code {
+    ([$($operator:tt)*] $($variant:ident = $code:literal, $sign:literal;)*) => {
+        match $($operator)* {
+            $(BinOp::$variant => $code,)*
+        }
+    };
+}
+
 impl BinOp {
     /// All binary operators, in the order of their codes.
     #[tactic(auto, unfolding(crate::specs::Codes::binary_operators))]
     pub fn all() -> [BinOp; 22]
         ensures { result ≡ binary_operators }
     {
-        [
-            BinOp::Add,
-            BinOp::Sub,
-            BinOp::Mul,
-            BinOp::Div,
-            BinOp::Rem,
-            BinOp::Pow,
-            BinOp::ShiftLeft,
-            BinOp::ShiftRight,
-            BinOp::BitAnd,
-            BinOp::BitOr,
-            BinOp::BitXor,
-            BinOp::Concat,
-            BinOp::Less,
-            BinOp::LessEqual,
-            BinOp::Greater,
-            BinOp::GreaterEqual,
-            BinOp::Equal,
-            BinOp::NotEqual,
-            BinOp::Identical,
-            BinOp::NotIdentical,
-            BinOp::Spaceship,
-            BinOp::LogicalXor,
-        ]
+        binary_operator_rows!(binary_variants)
     }
 
     /// The code of the operator, this project's own.
@@ -69,30 +62,7 @@ impl BinOp {
         ensures value { result ≡ binary_code self }
         ensures inverse { binary_with (binary_code self) ≡ Some self }
     {
-        match self {
-            BinOp::Add => 1,
-            BinOp::Sub => 2,
-            BinOp::Mul => 3,
-            BinOp::Div => 4,
-            BinOp::Rem => 5,
-            BinOp::Pow => 6,
-            BinOp::ShiftLeft => 7,
-            BinOp::ShiftRight => 8,
-            BinOp::BitAnd => 9,
-            BinOp::BitOr => 10,
-            BinOp::BitXor => 11,
-            BinOp::Concat => 12,
-            BinOp::Less => 13,
-            BinOp::LessEqual => 14,
-            BinOp::Greater => 15,
-            BinOp::GreaterEqual => 16,
-            BinOp::Equal => 17,
-            BinOp::NotEqual => 18,
-            BinOp::Identical => 19,
-            BinOp::NotIdentical => 20,
-            BinOp::Spaceship => 21,
-            BinOp::LogicalXor => 22,
-        }
+        binary_operator_rows!(binary_code self)
     }
 
     /// The one of this code, or None where there is none.
@@ -124,22 +94,27 @@ pub enum UnOp {
     ToArray,
 }
 
+macro_rules! unary_variants {
+    ([] $($variant:ident = $code:literal, $sign:literal;)*) => {
+        [$(UnOp::$variant,)*]
+    };
+}
+
+macro_rules! unary_code {
+    ([$($operator:tt)*] $($variant:ident = $code:literal, $sign:literal;)*) => {
+        match $($operator)* {
+            $(UnOp::$variant => $code,)*
+        }
+    };
+}
+
 impl UnOp {
     /// All unary operators and casts, in the order of their codes.
     #[tactic(auto, unfolding(crate::specs::Codes::unary_operators))]
     pub fn all() -> [UnOp; 8]
         ensures { result ≡ unary_operators }
     {
-        [
-            UnOp::Plus,
-            UnOp::Minus,
-            UnOp::BitNot,
-            UnOp::Not,
-            UnOp::ToInt,
-            UnOp::ToBool,
-            UnOp::ToString,
-            UnOp::ToArray,
-        ]
+        unary_operator_rows!(unary_variants)
     }
 
     /// The code of the operator, this project's own.
@@ -148,16 +123,7 @@ impl UnOp {
         ensures value { result ≡ unary_code self }
         ensures inverse { unary_with (unary_code self) ≡ Some self }
     {
-        match self {
-            UnOp::Plus => 1,
-            UnOp::Minus => 2,
-            UnOp::BitNot => 3,
-            UnOp::Not => 4,
-            UnOp::ToInt => 5,
-            UnOp::ToBool => 6,
-            UnOp::ToString => 7,
-            UnOp::ToArray => 8,
-        }
+        unary_operator_rows!(unary_code self)
     }
 
     /// The one of this code, or None where there is none.
