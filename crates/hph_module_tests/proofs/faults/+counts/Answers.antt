@@ -3,8 +3,8 @@ use Rattle.hph_wasm.specs.declared.instr.Instr.{Instr}
 use Rattle.hph_wasm.specs.declared.types.BlockType.{BlockType}
 use Rattle.hph_wasm.specs.declared.instr.Instr.TheViews.{If}
 use Rattle.hph_wasm.specs.Rows.{size, list_size}
-use Rattle.hph_wvalid.proofs.Views.{size_block, size_loop, size_if_alone, size_if_else}
-use Rattle.hph_wvalid.proofs.tests.+counts.Goals as goal
+use Rattle.hph_module_tests.proofs.Counts.{size_block, size_loop, size_if_alone, size_if_else}
+use Rattle.hph_module_tests.proofs.faults.+counts.Goals as goal
 
 -- An `if` has more opcodes than its first branch.
 if_more : (ty : BlockType) (body : List Instr) (other : Option (List Instr)) → list_size body + 1 < size (If ty body other)

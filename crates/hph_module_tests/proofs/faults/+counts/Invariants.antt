@@ -1,6 +1,6 @@
 use Rattle.std.proofs.Common.{◌+◌, ◌*◌}
 use Rattle.hph_wasm.specs.Rows.{size, list_size}
-use Rattle.hph_wvalid.proofs.tests.+counts.Given as goal
+use Rattle.hph_module_tests.proofs.faults.+counts.Given as goal
 
 abbrev pub decreases-opcodes : goal.decreases-opcodes
 decreases-opcodes l = 2 * size l.instr.now

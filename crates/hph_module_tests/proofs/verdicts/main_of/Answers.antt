@@ -1,4 +1,4 @@
-use Rattle.hph_wvalid.proofs.tests.main_of.Goals as goal
+use Rattle.hph_module_tests.proofs.verdicts.main_of.Goals as goal
 
 pub returns : goal.returns
 returns c = rw (
