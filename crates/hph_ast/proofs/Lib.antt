@@ -1,7 +1,6 @@
 pub mod TokenExamples
 pub mod ExpressionNesting
 pub mod PositiveNesting
-pub mod Fits
 pub mod ExpressionExamples
 pub mod StatementExamples
 pub mod TreeExamples

@@ -1,7 +1,7 @@
 use crate::expr::Expr;
 use crate::function::{DeclaredType, Function};
 use crate::token::{At, Identifier};
-use sqlite_items::Items;
+use sqlite_items::{Boxed, Items};
 
 /// A class (PHP manual, Classes and Objects).
 #[cycle(stmt)]
@@ -31,19 +31,19 @@ pub enum Member {
     Method {
         at: At,
         modifiers: Modifiers,
-        function: Function,
+        function: Boxed<Function>,
     },
 }
 
 /// What stands before a member, in whatever order.
-#[derive(Clone, Copy, Debug, PartialEq, Eq)]
+#[derive(Clone, Copy, PartialEq, Eq)]
 pub struct Modifiers {
     pub access: Option<Access>,
     pub is_static: bool,
 }
 
 /// Who may use a member; `var` is written for a property without another.
-#[derive(Clone, Copy, Debug, PartialEq, Eq)]
+#[derive(Clone, Copy, PartialEq, Eq)]
 pub enum Access {
     Public,
     Protected,
@@ -55,12 +55,12 @@ pub enum Access {
 #[derive(Drop)]
 pub struct ConstantItem {
     pub name: Identifier,
-    pub value: Expr,
+    pub value: Boxed<Expr>,
 }
 
 /// A property and its initial value.
 #[derive(Drop)]
 pub struct PropertyItem {
     pub name: Identifier,
-    pub value: Option<Expr>,
+    pub value: Option<Boxed<Expr>>,
 }

@@ -49,35 +49,35 @@ pub enum Expr {
     },
     StaticCall {
         at: At,
-        class: ClassReference,
-        name: MemberName,
+        class: Boxed<ClassReference>,
+        name: Boxed<MemberName>,
         arguments: Items<Expr>,
     },
     MethodCall {
         at: At,
         object: Boxed<Expr>,
-        name: MemberName,
+        name: Boxed<MemberName>,
         arguments: Items<Expr>,
     },
     New {
         at: At,
-        class: ClassReference,
+        class: Boxed<ClassReference>,
         arguments: Items<Expr>,
     },
     ClassConstant {
         at: At,
-        class: ClassReference,
+        class: Boxed<ClassReference>,
         name: Items<u8>,
     },
     /// `C::class`, and the place of its `::`. Refused.
     ClassName {
         at: At,
-        class: ClassReference,
+        class: Boxed<ClassReference>,
         colons: u32,
     },
     StaticProperty {
         at: At,
-        class: ClassReference,
+        class: Boxed<ClassReference>,
         name: Items<u8>,
     },
     Paren {
@@ -174,14 +174,14 @@ pub enum Expr {
 }
 
 /// `[..]` or `array(..)`.
-#[derive(Clone, Copy, Debug, PartialEq, Eq)]
+#[derive(Clone, Copy, PartialEq, Eq)]
 pub enum ArrayForm {
     Short,
     Long,
 }
 
 /// A `++` or `--`, before or after its path.
-#[derive(Clone, Copy, Debug, PartialEq, Eq)]
+#[derive(Clone, Copy, PartialEq, Eq)]
 pub enum Update {
     PreIncrement,
     PreDecrement,
@@ -194,7 +194,7 @@ pub enum Update {
 #[derive(Drop)]
 pub enum StringPart {
     Piece { at: At, bytes: Items<u8> },
-    Interpolation { value: Expr },
+    Interpolation { value: Boxed<Expr> },
 }
 
 /// An element of an array, and with its key. References and holes are refused.
@@ -203,21 +203,21 @@ pub enum StringPart {
 pub enum Item {
     Plain {
         at: At,
-        value: Expr,
+        value: Boxed<Expr>,
     },
     Keyed {
         at: At,
-        key: Expr,
-        value: Expr,
+        key: Boxed<Expr>,
+        value: Boxed<Expr>,
     },
     Reference {
         at: At,
-        value: Expr,
+        value: Boxed<Expr>,
     },
     KeyedReference {
         at: At,
-        key: Expr,
-        value: Expr,
+        key: Boxed<Expr>,
+        value: Boxed<Expr>,
         ampersand: u32,
     },
     /// Nothing between two commas of a destructuring.
@@ -252,5 +252,5 @@ pub enum Step {
     Index { at: At, key: Boxed<Expr> },
     /// `[]`
     Append { at: At },
-    Property { at: At, name: MemberName },
+    Property { at: At, name: Boxed<MemberName> },
 }

@@ -1,7 +1,7 @@
 use crate::expr::Expr;
 use crate::stmt::Statement;
 use crate::token::{At, Identifier};
-use sqlite_items::Items;
+use sqlite_items::{Boxed, Items};
 
 /// A function, or the function of a method (PHP manual, User-defined functions).
 #[cycle(stmt)]
@@ -21,7 +21,7 @@ pub struct Param {
     pub ty: Option<DeclaredType>,
     pub by_reference: bool,
     pub name: Identifier,
-    pub default: Option<Expr>,
+    pub default: Option<Boxed<Expr>>,
 }
 
 /// A declared type: the names between its `|`, and whether a `?` stands before them.

@@ -1,5 +1,5 @@
 /// A keyword, in any ASCII case; `and`, `xor` and `or` are operators (PHP manual, List of Keywords).
-#[derive(Clone, Copy, Debug, PartialEq, Eq)]
+#[derive(Clone, Copy, PartialEq, Eq)]
 pub enum Keyword {
     Abstract,
     Array,

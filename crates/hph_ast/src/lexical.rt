@@ -1,5 +1,5 @@
 /// What the bytes at a place are read as.
-#[derive(Clone, Copy, Debug, PartialEq, Eq)]
+#[derive(Clone, Copy, PartialEq, Eq)]
 pub enum Mode {
     /// Outside `<?php` and `?>`.
     Inline,
@@ -13,7 +13,7 @@ pub enum Mode {
 }
 
 /// What begins at a place in code.
-#[derive(Clone, Copy, Debug, PartialEq, Eq)]
+#[derive(Clone, Copy, PartialEq, Eq)]
 pub enum Start {
     Whitespace,
     CloseTag,

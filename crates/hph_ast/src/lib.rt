@@ -1,6 +1,6 @@
 //! Tokens and syntax trees of PHP's profile, and what a front end can refuse.
 //!
-//! Rust has the types and the nesting of a tree; specs/ has the grammars: which bytes spell which tokens, and
+//! Rust has the types; specs/ has the grammars: which bytes spell which tokens, and
 //! which tokens spell which tree. They are what readers of programs are to be proved against, in both directions.
 //! docs/LANGUAGE.md says the same in words.
 #![tactic(auto)]
@@ -11,7 +11,6 @@ mod function;
 mod keyword;
 mod laws;
 mod lexical;
-mod nesting;
 mod operator;
 mod program;
 mod refusal;
@@ -28,7 +27,6 @@ pub use laws::{
     nesting_of_parts, statement_uses_a_front,
 };
 pub use lexical::{Mode, Start};
-pub use nesting::expr_fits;
 pub use operator::{Assignment, Binary, Cast, Grouping, IncludeForm, Prefix};
 pub use program::{File, FileTree, Place, Program};
 pub use refusal::{Construct, LexKind, LimitName, Refusal, Spot};

@@ -1,5 +1,5 @@
 /// A binary operator that is no assignment, from the tightest level on (PHP manual, Operator Precedence).
-#[derive(Clone, Copy, Debug, PartialEq, Eq)]
+#[derive(Clone, Copy, PartialEq, Eq)]
 pub enum Binary {
     Pow,
     Mul,
@@ -34,7 +34,7 @@ pub enum Binary {
 }
 
 /// How operators of one level group.
-#[derive(Clone, Copy, Debug, PartialEq, Eq)]
+#[derive(Clone, Copy, PartialEq, Eq)]
 pub enum Grouping {
     Left,
     Right,
@@ -42,7 +42,7 @@ pub enum Grouping {
 }
 
 /// An operator before its operand, but for `++` and `--`.
-#[derive(Clone, Copy, Debug, PartialEq, Eq)]
+#[derive(Clone, Copy, PartialEq, Eq)]
 pub enum Prefix {
     Plus,
     Minus,
@@ -58,7 +58,7 @@ pub enum Prefix {
 }
 
 /// The type that a cast gives (PHP manual, Type Juggling).
-#[derive(Clone, Copy, Debug, PartialEq, Eq)]
+#[derive(Clone, Copy, PartialEq, Eq)]
 pub enum Cast {
     Int,
     Bool,
@@ -67,7 +67,7 @@ pub enum Cast {
 }
 
 /// Which of the four forms an include has.
-#[derive(Clone, Copy, Debug, PartialEq, Eq)]
+#[derive(Clone, Copy, PartialEq, Eq)]
 pub enum IncludeForm {
     Include,
     IncludeOnce,
@@ -76,7 +76,7 @@ pub enum IncludeForm {
 }
 
 /// An assignment: `=`, or one that first applies an operator to the old value (PHP manual, Assignment Operators).
-#[derive(Clone, Copy, Debug, PartialEq, Eq)]
+#[derive(Clone, Copy, PartialEq, Eq)]
 pub enum Assignment {
     Set,
     Add,

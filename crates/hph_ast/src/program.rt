@@ -25,7 +25,7 @@ pub struct Program {
 }
 
 /// A place of a program: a file's number, and an offset that counts bytes from 0.
-#[derive(Clone, Copy, Debug, PartialEq, Eq)]
+#[derive(Clone, Copy, PartialEq, Eq)]
 pub struct Place {
     pub file: u32,
     pub offset: u32,

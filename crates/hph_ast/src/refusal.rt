@@ -1,5 +1,5 @@
 /// Why no token begins at a place.
-#[derive(Clone, Copy, Debug, PartialEq, Eq)]
+#[derive(Clone, Copy, PartialEq, Eq)]
 pub enum LexKind {
     UnclosedString,
     UnclosedComment,
@@ -12,7 +12,7 @@ pub enum LexKind {
 
 /// A construct of PHP that is refused: first those that the lexer meets, then those that a first token tells,
 /// then those that the tree tells (this project's own list).
-#[derive(Clone, Copy, Debug, PartialEq, Eq)]
+#[derive(Clone, Copy, PartialEq, Eq)]
 pub enum Construct {
     FloatLiteral,
     Heredoc,
@@ -59,7 +59,7 @@ pub enum Construct {
 }
 
 /// A quantity that has a limit.
-#[derive(Clone, Copy, Debug, PartialEq, Eq)]
+#[derive(Clone, Copy, PartialEq, Eq)]
 pub enum LimitName {
     /// The bytes of one source file: 1048576.
     FileBytes,
@@ -72,14 +72,14 @@ pub enum LimitName {
 }
 
 /// A place of a program that is named by its file's path; the offset counts bytes from 0.
-#[derive(Debug, Drop)]
+#[derive(Drop)]
 pub struct Spot {
     pub file: String,
     pub offset: u32,
 }
 
 /// Why a program is refused, in the order in which the tests are made. Files and paths are normalised paths.
-#[derive(Debug, Drop)]
+#[derive(Drop)]
 pub enum Refusal {
     Lex { kind: LexKind, spot: Spot },
     Construct { kind: Construct, spot: Spot },

@@ -21,30 +21,30 @@ pub enum Statement {
     },
     Expression {
         at: At,
-        value: Expr,
+        value: Boxed<Expr>,
     },
     Function {
-        function: Function,
+        function: Boxed<Function>,
     },
     Class {
-        class: Class,
+        class: Boxed<Class>,
     },
     If {
         at: At,
-        test: Expr,
+        test: Boxed<Expr>,
         body: Boxed<Statement>,
         more: Items<ElseIf>,
         other: Option<Boxed<Statement>>,
     },
     While {
         at: At,
-        test: Expr,
+        test: Boxed<Expr>,
         body: Boxed<Statement>,
     },
     DoWhile {
         at: At,
         body: Boxed<Statement>,
-        test: Expr,
+        test: Boxed<Expr>,
     },
     For {
         at: At,
@@ -55,14 +55,14 @@ pub enum Statement {
     },
     Foreach {
         at: At,
-        subject: Expr,
+        subject: Boxed<Expr>,
         key: Option<Identifier>,
         value: ForeachTarget,
         body: Boxed<Statement>,
     },
     Switch {
         at: At,
-        subject: Expr,
+        subject: Boxed<Expr>,
         cases: Items<Case>,
     },
     Break {
@@ -75,7 +75,7 @@ pub enum Statement {
     },
     Return {
         at: At,
-        value: Option<Expr>,
+        value: Option<Boxed<Expr>>,
     },
     Echo {
         at: At,
@@ -103,8 +103,8 @@ pub enum Statement {
 #[cycle(stmt)]
 #[derive(Drop)]
 pub struct ElseIf {
-    pub test: Expr,
-    pub body: Statement,
+    pub test: Boxed<Expr>,
+    pub body: Boxed<Statement>,
 }
 
 /// A `case`, or `default` where there is no test.
@@ -112,7 +112,7 @@ pub struct ElseIf {
 #[derive(Drop)]
 pub struct Case {
     pub at: At,
-    pub test: Option<Expr>,
+    pub test: Option<Boxed<Expr>>,
     pub body: Items<Statement>,
 }
 
@@ -128,5 +128,5 @@ pub enum ForeachTarget {
 #[derive(Drop)]
 pub struct StaticVariable {
     pub name: Identifier,
-    pub value: Option<Expr>,
+    pub value: Option<Boxed<Expr>>,
 }

@@ -3,7 +3,7 @@ use crate::operator::{Assignment, Binary, Cast};
 use sqlite_items::Items;
 
 /// A token, from its byte `start` up to its byte `end`, counted from 0 in its file.
-#[derive(Debug, Drop)]
+#[derive(Drop)]
 pub struct Token {
     pub kind: Kind,
     pub start: u32,
@@ -11,7 +11,7 @@ pub struct Token {
 }
 
 /// What a token is, with what it spells.
-#[derive(Debug, Drop)]
+#[derive(Drop)]
 pub enum Kind {
     /// What stands outside `<?php` and `?>`.
     InlineText(Items<u8>),
@@ -36,7 +36,7 @@ pub enum Kind {
 }
 
 /// A mark that is neither a binary operator nor an assignment.
-#[derive(Clone, Copy, Debug, PartialEq, Eq)]
+#[derive(Clone, Copy, PartialEq, Eq)]
 pub enum Mark {
     OpenParen,
     CloseParen,
@@ -67,7 +67,7 @@ pub enum Mark {
 }
 
 /// Where a node stands, from its first byte up to the end of its last, and the number of its site.
-#[derive(Clone, Copy, Debug, PartialEq, Eq)]
+#[derive(Clone, Copy, PartialEq, Eq)]
 pub struct At {
     pub start: u32,
     pub end: u32,
@@ -75,7 +75,7 @@ pub struct At {
 }
 
 /// A name or a variable that is no node of its own, with its place.
-#[derive(Debug, Drop)]
+#[derive(Drop)]
 pub struct Identifier {
     pub start: u32,
     pub end: u32,

@@ -111,7 +111,7 @@ pub fn exit_with_of(alloc: Global, at: At, operand: Boxed<Expr>) -> Result<Boxed
 pub fn method_call_of(
     alloc: Global,
     object: Boxed<Expr>,
-    name: MemberName,
+    name: Boxed<MemberName>,
     arguments: Items<Expr>,
     last: At,
 ) -> Result<Boxed<Expr>, AllocError>

@@ -1,5 +1,5 @@
 use hph_ast::{At, Expr, FileTree, Prefix, Statement};
-use hph_nest::{file_fits, is_constant};
+use hph_nest::{expr_fits, file_fits, is_constant};
 use sqlite_items::{Boxed, Items};
 use std::alloc::Global;
 use std::test::Fail;
@@ -13,10 +13,8 @@ const AT: At = At {
 /// A file of the one statement `exit;`, which is nested 3 deep: the file, the statement and the expression.
 fn exits(alloc: Global) -> Result<FileTree, Fail> {
     let mut statements = Items::new(alloc);
-    statements.push(Statement::Expression {
-        at: AT,
-        value: Expr::Exit { at: AT },
-    })?;
+    let value = Boxed::new(alloc, Expr::Exit { at: AT })?;
+    statements.push(Statement::Expression { at: AT, value })?;
     Ok(FileTree { at: AT, statements })
 }
 
@@ -25,6 +23,15 @@ fn the_file_and_the_statement_are_nodes(rt: HostRuntime) -> Result<(), Fail> {
     let tree = exits(rt.alloc())?;
     assert!(rt; file_fits(&tree, 3));
     assert!(rt; !file_fits(&tree, 2));
+    Ok(())
+}
+
+#[test]
+fn a_parenthesis_is_a_node(rt: HostRuntime) -> Result<(), Fail> {
+    let inner = Boxed::new(rt.alloc(), Expr::Exit { at: AT })?;
+    let outer = Expr::Paren { at: AT, inner };
+    assert!(rt; expr_fits(&outer, 2));
+    assert!(rt; !expr_fits(&outer, 1));
     Ok(())
 }
 

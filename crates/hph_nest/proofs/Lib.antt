@@ -1,2 +1,3 @@
 pub mod Constants
+pub mod Fitting
 pub mod Nodes

@@ -26,8 +26,8 @@ pub fn is_constant(expr: &Expr) -> bool
             true,
         Expr::Interpolated { parts, .. } => parts_are_constant(parts.as_slice()),
         Expr::Array { items, .. } => items_are_constant(items.as_slice()),
-        Expr::ClassConstant { class, .. } => class_is_constant(class),
-        Expr::ClassName { class, .. } => class_is_constant(class),
+        Expr::ClassConstant { class, .. } => class_is_constant(class.get()),
+        Expr::ClassName { class, .. } => class_is_constant(class.get()),
         Expr::Paren { inner, .. } => is_constant(inner.get()),
         Expr::Path { base, steps, .. } => is_constant(base.get())
             && steps_are_constant(steps.as_slice()),
@@ -91,8 +91,8 @@ fn item_is_constant(item: &Item) -> bool
     ensures { result ≡ constant_item item.now }
 {
     match item {
-        Item::Plain { value, .. } => is_constant(value),
-        Item::Keyed { key, value, .. } => is_constant(key) && is_constant(value),
+        Item::Plain { value, .. } => is_constant(value.get()),
+        Item::Keyed { key, value, .. } => is_constant(key.get()) && is_constant(value.get()),
         Item::Reference { .. } | Item::KeyedReference { .. } | Item::Hole { .. } => false,
     }
 }
@@ -116,7 +116,7 @@ fn step_is_constant(step: &Step) -> bool
     match step {
         Step::Index { key, .. } => is_constant(key.get()),
         Step::Append { .. } => false,
-        Step::Property { name, .. } => member_is_constant(name),
+        Step::Property { name, .. } => member_is_constant(name.get()),
     }
 }
 
@@ -127,7 +127,7 @@ fn part_is_constant(part: &StringPart) -> bool
 {
     match part {
         StringPart::Piece { .. } => true,
-        StringPart::Interpolation { value } => is_constant(value),
+        StringPart::Interpolation { value } => is_constant(value.get()),
     }
 }
 

@@ -2,10 +2,11 @@ ghost use Rattle.std.specs.Prelude.{◌≡◌, nat_le};
 ghost use Rattle.hph_ast.specs.Nesting.{nesting, item_nesting, greatest};
 ghost use Rattle.hph_ast.specs.StatementNesting.{maybe, param_nesting, target_nesting, statement_nesting, member_nesting, class_nesting, function_nesting, case_nesting, else_if_nesting, file_nesting};
 
+use crate::nesting::expr_fits;
 use hph_ast::{
     Case, Class, ConstantItem, ElseIf, Expr, FileTree, ForeachTarget, Function, Item, Member,
-    Param, PropertyItem, Statement, StaticVariable, expr_fits, nesting_of_declarations,
-    nesting_of_items, nesting_of_members, nesting_of_statements,
+    Param, PropertyItem, Statement, StaticVariable, nesting_of_declarations, nesting_of_items,
+    nesting_of_members, nesting_of_statements,
 };
 use sqlite_items::Boxed;
 
@@ -37,8 +38,8 @@ fn statement_fits(statement: &Statement, limit: usize) -> bool
 {
     nesting_of_statements();
     match statement {
-        Statement::Function { function } => function_fits(function, limit),
-        Statement::Class { class } => class_fits(class, limit),
+        Statement::Function { function } => function_fits(function.get(), limit),
+        Statement::Class { class } => class_fits(class.get(), limit),
         Statement::Empty { .. }
         | Statement::InlineText { .. }
         | Statement::Break { .. }
@@ -53,16 +54,16 @@ fn statement_fits(statement: &Statement, limit: usize) -> bool
             ..
         } => {
             limit > 0
-                && expr_fits(test, limit - 1)
+                && expr_fits(test.get(), limit - 1)
                 && statement_fits(body.get(), limit - 1)
                 && else_ifs_fit(more.as_slice(), limit - 1)
                 && otherwise_fits(other, limit - 1)
         }
         Statement::While { test, body, .. } => {
-            limit > 0 && expr_fits(test, limit - 1) && statement_fits(body.get(), limit - 1)
+            limit > 0 && expr_fits(test.get(), limit - 1) && statement_fits(body.get(), limit - 1)
         }
         Statement::DoWhile { body, test, .. } => {
-            limit > 0 && statement_fits(body.get(), limit - 1) && expr_fits(test, limit - 1)
+            limit > 0 && statement_fits(body.get(), limit - 1) && expr_fits(test.get(), limit - 1)
         }
         Statement::For {
             init,
@@ -84,14 +85,16 @@ fn statement_fits(statement: &Statement, limit: usize) -> bool
             ..
         } => {
             limit > 0
-                && expr_fits(subject, limit - 1)
+                && expr_fits(subject.get(), limit - 1)
                 && target_fits(value, limit - 1)
                 && statement_fits(body.get(), limit - 1)
         }
         Statement::Switch { subject, cases, .. } => {
-            limit > 0 && expr_fits(subject, limit - 1) && cases_fit(cases.as_slice(), limit - 1)
+            limit > 0
+                && expr_fits(subject.get(), limit - 1)
+                && cases_fit(cases.as_slice(), limit - 1)
         }
-        Statement::Expression { value, .. } => limit > 0 && expr_fits(value, limit - 1),
+        Statement::Expression { value, .. } => limit > 0 && expr_fits(value.get(), limit - 1),
         Statement::Return { value, .. } => limit > 0 && maybe_fits(value, limit - 1),
         Statement::Echo { values, .. } => limit > 0 && exprs_fit(values.as_slice(), limit - 1),
         Statement::Static { variables, .. } => limit > 0
@@ -119,7 +122,7 @@ fn else_ifs_fit(branches: &[ElseIf], limit: usize) -> bool
 {
     nesting_of_declarations();
     for branch in branches {
-        if !(expr_fits(&branch.test, limit) && statement_fits(&branch.body, limit)) {
+        if !(expr_fits(branch.test.get(), limit) && statement_fits(branch.body.get(), limit)) {
             return false;
         }
     }
@@ -188,16 +191,16 @@ fn member_fits(member: &Member, limit: usize) -> bool
         Member::Properties { ty, items, .. } => {
             limit > 0 && (ty.is_none() || limit > 1) && properties_fit(items.as_slice(), limit - 1)
         }
-        Member::Method { function, .. } => limit > 0 && function_fits(function, limit - 1),
+        Member::Method { function, .. } => limit > 0 && function_fits(function.get(), limit - 1),
     }
 }
 
 #[tactic(auto, using(crate::proofs::Nodes::nodes))]
-fn maybe_fits(value: &Option<Expr>, limit: usize) -> bool
+fn maybe_fits(value: &Option<Boxed<Expr>>, limit: usize) -> bool
     ensures { result ≡ nat_le (maybe nesting value.now) limit }
 {
     match value {
-        Some(value) => expr_fits(value, limit),
+        Some(value) => expr_fits(value.get(), limit),
         None => true,
     }
 }
@@ -239,7 +242,7 @@ fn constants_fit(items: &[ConstantItem], limit: usize) -> bool
     ensures { result ≡ nat_le (greatest (λ i. nesting i.value) items.now) limit }
 {
     for item in items {
-        if !expr_fits(&item.value, limit) {
+        if !expr_fits(item.value.get(), limit) {
             return false;
         }
     }
@@ -276,13 +279,13 @@ fn item_fits(item: &Item, limit: usize) -> bool
 {
     nesting_of_items();
     match item {
-        Item::Plain { value, .. } => limit > 0 && expr_fits(value, limit - 1),
-        Item::Reference { value, .. } => limit > 0 && expr_fits(value, limit - 1),
+        Item::Plain { value, .. } => limit > 0 && expr_fits(value.get(), limit - 1),
+        Item::Reference { value, .. } => limit > 0 && expr_fits(value.get(), limit - 1),
         Item::Keyed { key, value, .. } => limit > 0
-            && expr_fits(key, limit - 1)
-            && expr_fits(value, limit - 1),
+            && expr_fits(key.get(), limit - 1)
+            && expr_fits(value.get(), limit - 1),
         Item::KeyedReference { key, value, .. } => {
-            limit > 0 && expr_fits(key, limit - 1) && expr_fits(value, limit - 1)
+            limit > 0 && expr_fits(key.get(), limit - 1) && expr_fits(value.get(), limit - 1)
         }
         Item::Hole { .. } => limit > 0,
     }

@@ -1,10 +1,13 @@
-//! Tests of trees: whether a file's is nested no deeper than a limit, and whether an expression is constant.
+//! Tests of trees: whether a file's or an expression's is nested no deeper than a limit, and whether an expression
+//! is constant.
 //!
-//! Both are defined in `hph_ast`, which has the test of the nesting of expressions.
+//! Both are defined in `hph_ast`.
 #![tactic(auto)]
 
 mod constant;
 mod fits;
+mod nesting;
 
 pub use constant::is_constant;
 pub use fits::file_fits;
+pub use nesting::expr_fits;

@@ -4,7 +4,7 @@ use Rattle.std.specs.Prelude.{nat_le}
 use Rattle.hph_ast.specs.Nesting.{nesting, class_nesting, item_nesting, step_nesting, part_nesting, greatest}
 use Rattle.hph_ast.specs.declared.operator.Binary.{Binary}
 use Rattle.hph_ast.specs.declared.expr.Expr.{Expr}
-use Rattle.hph_ast.proofs.nesting.+expr_fits.Given as goal
+use Rattle.hph_nest.proofs.nesting.+expr_fits.Given as goal
 
 abbrev pub invariant-exprs_fit-loop-expr : goal.invariant-exprs_fit-loop-expr
 invariant-exprs_fit-loop-expr l = nat_le (greatest nesting l.exprs) l.limit ≡ nat_le (greatest nesting (drop l.expr-index l.exprs)) l.limit

@@ -3,12 +3,11 @@
 ghost use Rattle.std.specs.Prelude.{◌≡◌, nat_le};
 ghost use Rattle.hph_ast.specs.Nesting.{nesting, class_nesting, item_nesting, member_nesting, step_nesting, part_nesting, greatest};
 
-use crate::expr::{ClassReference, Expr, Item, MemberName, Step, StringPart};
-use crate::operator::Binary;
+use hph_ast::{Binary, ClassReference, Expr, Item, MemberName, Step, StringPart};
 
 /// Whether the expression is nested no deeper than the limit; a leaf has the nesting 1 (this project's own).
 #[cycle(expr_fits)]
-#[tactic(auto, using(crate::proofs::Fits::fitting))]
+#[tactic(auto, using(crate::proofs::Fitting::fitting))]
 pub fn expr_fits(expr: &Expr, limit: usize) -> bool
     ensures { result ≡ nat_le (nesting expr.now) limit }
 {
@@ -38,8 +37,8 @@ pub fn expr_fits(expr: &Expr, limit: usize) -> bool
             arguments,
             ..
         } => {
-            class_fits(class, limit)
-                && member_fits(name, limit)
+            class_fits(class.get(), limit)
+                && member_fits(name.get(), limit)
                 && exprs_fit(arguments.as_slice(), limit)
         }
         Expr::MethodCall {
@@ -49,17 +48,17 @@ pub fn expr_fits(expr: &Expr, limit: usize) -> bool
             ..
         } => {
             expr_fits(object.get(), limit)
-                && member_fits(name, limit)
+                && member_fits(name.get(), limit)
                 && exprs_fit(arguments.as_slice(), limit)
         }
         Expr::New {
             class,
             arguments,
             ..
-        } => class_fits(class, limit) && exprs_fit(arguments.as_slice(), limit),
-        Expr::ClassConstant { class, .. } => class_fits(class, limit),
-        Expr::ClassName { class, .. } => class_fits(class, limit),
-        Expr::StaticProperty { class, .. } => class_fits(class, limit),
+        } => class_fits(class.get(), limit) && exprs_fit(arguments.as_slice(), limit),
+        Expr::ClassConstant { class, .. } => class_fits(class.get(), limit),
+        Expr::ClassName { class, .. } => class_fits(class.get(), limit),
+        Expr::StaticProperty { class, .. } => class_fits(class.get(), limit),
         Expr::Paren { inner, .. } => expr_fits(inner.get(), limit),
         Expr::Empty { operand, .. } => expr_fits(operand.get(), limit),
         Expr::ExitWith { operand, .. } => expr_fits(operand.get(), limit),
@@ -100,7 +99,7 @@ pub fn expr_fits(expr: &Expr, limit: usize) -> bool
 }
 
 #[cycle(expr_fits)]
-#[tactic(auto, using(crate::proofs::Fits::fitting))]
+#[tactic(auto, using(crate::proofs::Fitting::fitting))]
 fn class_fits(class: &ClassReference, limit: usize) -> bool
     ensures { result ≡ nat_le (class_nesting class.now) limit }
 {
@@ -117,7 +116,7 @@ fn class_fits(class: &ClassReference, limit: usize) -> bool
 }
 
 #[cycle(expr_fits)]
-#[tactic(auto, using(crate::proofs::Fits::fitting))]
+#[tactic(auto, using(crate::proofs::Fitting::fitting))]
 fn item_fits(item: &Item, limit: usize) -> bool
     ensures { result ≡ nat_le (item_nesting item.now) limit }
 {
@@ -126,16 +125,18 @@ fn item_fits(item: &Item, limit: usize) -> bool
     }
     let limit = limit - 1;
     match item {
-        Item::Plain { value, .. } => expr_fits(value, limit),
-        Item::Keyed { key, value, .. } => expr_fits(key, limit) && expr_fits(value, limit),
-        Item::Reference { value, .. } => expr_fits(value, limit),
-        Item::KeyedReference { key, value, .. } => expr_fits(key, limit) && expr_fits(value, limit),
+        Item::Plain { value, .. } => expr_fits(value.get(), limit),
+        Item::Keyed { key, value, .. } => expr_fits(key.get(), limit)
+            && expr_fits(value.get(), limit),
+        Item::Reference { value, .. } => expr_fits(value.get(), limit),
+        Item::KeyedReference { key, value, .. } => expr_fits(key.get(), limit)
+            && expr_fits(value.get(), limit),
         Item::Hole { .. } => true,
     }
 }
 
 #[cycle(expr_fits)]
-#[tactic(auto, using(crate::proofs::Fits::fitting))]
+#[tactic(auto, using(crate::proofs::Fitting::fitting))]
 fn member_fits(name: &MemberName, limit: usize) -> bool
     ensures { result ≡ nat_le (member_nesting name.now) limit }
 {
@@ -146,30 +147,30 @@ fn member_fits(name: &MemberName, limit: usize) -> bool
 }
 
 #[cycle(expr_fits)]
-#[tactic(auto, using(crate::proofs::Fits::fitting))]
+#[tactic(auto, using(crate::proofs::Fitting::fitting))]
 fn step_fits(step: &Step, limit: usize) -> bool
     ensures { result ≡ nat_le (step_nesting step.now) limit }
 {
     match step {
         Step::Index { key, .. } => expr_fits(key.get(), limit),
         Step::Append { .. } => true,
-        Step::Property { name, .. } => member_fits(name, limit),
+        Step::Property { name, .. } => member_fits(name.get(), limit),
     }
 }
 
 #[cycle(expr_fits)]
-#[tactic(auto, using(crate::proofs::Fits::fitting))]
+#[tactic(auto, using(crate::proofs::Fitting::fitting))]
 fn part_fits(part: &StringPart, limit: usize) -> bool
     ensures { result ≡ nat_le (part_nesting part.now) limit }
 {
     match part {
         StringPart::Piece { .. } => true,
-        StringPart::Interpolation { value } => expr_fits(value, limit),
+        StringPart::Interpolation { value } => expr_fits(value.get(), limit),
     }
 }
 
 #[cycle(expr_fits)]
-#[tactic(auto, using(crate::proofs::Fits::fitting))]
+#[tactic(auto, using(crate::proofs::Fitting::fitting))]
 fn exprs_fit(exprs: &[Expr], limit: usize) -> bool
     ensures { result ≡ nat_le (greatest nesting exprs.now) limit }
 {
@@ -182,7 +183,7 @@ fn exprs_fit(exprs: &[Expr], limit: usize) -> bool
 }
 
 #[cycle(expr_fits)]
-#[tactic(auto, using(crate::proofs::Fits::fitting))]
+#[tactic(auto, using(crate::proofs::Fitting::fitting))]
 fn items_fit(items: &[Item], limit: usize) -> bool
     ensures { result ≡ nat_le (greatest item_nesting items.now) limit }
 {
@@ -195,7 +196,7 @@ fn items_fit(items: &[Item], limit: usize) -> bool
 }
 
 #[cycle(expr_fits)]
-#[tactic(auto, using(crate::proofs::Fits::fitting))]
+#[tactic(auto, using(crate::proofs::Fitting::fitting))]
 fn steps_fit(steps: &[Step], limit: usize) -> bool
     ensures { result ≡ nat_le (greatest step_nesting steps.now) limit }
 {
@@ -208,7 +209,7 @@ fn steps_fit(steps: &[Step], limit: usize) -> bool
 }
 
 #[cycle(expr_fits)]
-#[tactic(auto, using(crate::proofs::Fits::fitting))]
+#[tactic(auto, using(crate::proofs::Fitting::fitting))]
 fn parts_fit(parts: &[StringPart], limit: usize) -> bool
     ensures { result ≡ nat_le (greatest part_nesting parts.now) limit }
 {
@@ -221,7 +222,7 @@ fn parts_fit(parts: &[StringPart], limit: usize) -> bool
 }
 
 #[cycle(expr_fits)]
-#[tactic(auto, using(crate::proofs::Fits::fitting))]
+#[tactic(auto, using(crate::proofs::Fitting::fitting))]
 fn classes_fit(classes: &[ClassReference], limit: usize) -> bool
     ensures { result ≡ nat_le (greatest class_nesting classes.now) limit }
 {
@@ -234,7 +235,7 @@ fn classes_fit(classes: &[ClassReference], limit: usize) -> bool
 }
 
 #[cycle(expr_fits)]
-#[tactic(auto, using(crate::proofs::Fits::fitting))]
+#[tactic(auto, using(crate::proofs::Fitting::fitting))]
 fn operands_fit(operands: &[(Binary, Expr)], limit: usize) -> bool
     ensures { result ≡ nat_le (greatest (λ o. nesting o.1) operands.now) limit }
 {
@@ -244,27 +245,4 @@ fn operands_fit(operands: &[(Binary, Expr)], limit: usize) -> bool
         }
     }
     true
-}
-
-#[cfg(test)]
-mod tests {
-    use super::*;
-    use crate::token::At;
-    use sqlite_items::Boxed;
-    use std::test::Fail;
-
-    const AT: At = At {
-        start: 0,
-        end: 3,
-        site: 0,
-    };
-
-    #[test]
-    fn a_parenthesis_is_a_node(rt: HostRuntime) -> Result<(), Fail> {
-        let inner = Boxed::new(rt.alloc(), Expr::Exit { at: AT })?;
-        let outer = Expr::Paren { at: AT, inner };
-        assert!(rt; expr_fits(&outer, 2));
-        assert!(rt; !expr_fits(&outer, 1));
-        Ok(())
-    }
 }
