@@ -114,7 +114,8 @@ fn is_letter(byte: u8) -> bool
     byte.is_ascii_alphabetic() || byte == b'_' || byte >= 0x80
 }
 
-fn lower(byte: u8) -> u8
+/// A byte, a letter of ASCII in lower case.
+pub fn lower(byte: u8) -> u8
     ensures { result ≡ lower byte }
 {
     if byte.is_ascii_uppercase() {
