@@ -252,10 +252,11 @@ impl<S: System> Shared<S> {
         );
     }
 
-    /// One more is pending. The seat owes nothing before, and one unit afterwards.
+    /// One more is pending. The seat has a hand, and owes nothing before and one unit afterwards.
     pub fn pending_add(&self, seat: &mut Seat<S>)
         requires seat { seat.old.0 ≡ self.now.0 }
         requires live { seat.old.1.live ≡ true }
+        requires hand { (s : ℕ) × (seat.old.1.hand ≡ Some s) }
         requires may { seat.old.1.debt ≡ false }
         ensures seat { seat.new.0 ≡ self.now.0 }
         ensures view { seat.new.1 ≡ after_add seat.old.1 }
