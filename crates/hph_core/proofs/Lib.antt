@@ -1,0 +1,11 @@
+pub mod Lists
+pub mod Types
+pub mod Keeps
+pub mod Sums
+pub mod Parts
+pub mod Bits
+pub mod EventsKeep
+pub mod Seats
+pub mod First
+pub mod Runs
+pub mod Worth

@@ -1,0 +1,58 @@
+use Rattle.std.proofs.Common.{rules, ◌≡◌, ◌≢◌, ◌<◌, ◌≤◌, ◌+◌, ◌-◌, ◌*◌, ◌/◌, ◌%◌, ◌^◌, true, false, Bool, not, eqb, ℕ, List, [], ◌∷◌, Some, None, sym, refl, ap, ◌∙◌, subst, arith}
+use Rattle.std.specs.Int.{bit_at, bit_not, trailing_zeros}
+use mir.Syntax.{w64}
+use Rattle.hph_core.specs.Effects.{mask}
+use Rattle.hph_type.specs.Types.{PhpType}
+use Rattle.hph_type.specs.Codes.{code}
+use Rattle.hph_sys.specs.Shape.{Shape}
+use Rattle.hph_sys.specs.Typings.{In}
+use Rattle.hph_type.specs.Order.{IsOf}
+use Rattle.hph_core.specs.declared.view.View.{View}
+use Rattle.hph_core.specs.Effects.{after_peek, after_take, after_mark, after_put_back, after_try, after_release, after_read, after_raise, after_add, after_pay, after_done, after_pending}
+use Rattle.hph_core.specs.Conditions.{MayPutBack, MayMark}
+use Rattle.hph_core.specs.Rule.{one_if}
+use Rattle.atomic_table.specs.Table.{Me, Step, step}
+use Rattle.atomic_table.specs.Seated.{TableId}
+use mathlib.Core.Option.{none}
+use Rattle.hph_table.specs.declared.NoSlot.{NoSlot}
+use Rattle.hph_table.specs.declared.Plan.{Plan}
+use Rattle.hph_table.specs.Tells.{Peeks, Takes, Marks, PutsBack, Tries, Releases, Reads, Raises, Adds, Pays, Finishes, Waits, BitsIn}
+use Rattle.hph_table.specs.Views.{RaisesSeen, FinishesSeen}
+use Rattle.hph_core.specs.Events.{of_hand}
+use Rattle.hph_table.proofs.Moves as mv
+use Rattle.hph_table.proofs.Codes as codes
+use Rattle.hph_table.proofs.Shared.pending_add.Goals as goal
+
+pub fetch_add-requires : goal.fetch_add-requires
+fetch_add-requires g c =
+    let key = c.self.inside.table.shared.key in
+    let sys : Shape = g.S.System.shape key.system.value in
+    let inv = c.self.invariant in
+    let me : Me NoSlot View = c.seat.inside.seat.me in
+    let slots = c.self.inside.table.shared.table_id.slots in
+    let id = c.seat.inside.seat.id in
+    let vs : me.0 ≡ c.args.seat.now.1 = ap (λ (p : TableId × View). p.1) c.seat.view_is in
+    let ids : c.seat.inside.seat.table_id ≡ c.args.seat.now.0 = ap (λ (p : TableId × View). p.0) c.seat.view_is in
+    let tid : c.self.inside.table.shared.table_id ≡ c.args.self.now.0 = ap (λ (p : TableId × Plan g.row.S.Denot). p.0) c.self.view_is in
+    let live : me.0.live ≡ true = ap (λ (v : View). v.live) vs ∙ c.requires.live in
+    let i : c.seat.inside.number ≡ me.0.number = c.seat.invariant.0 in (
+      ids ∙ (c.requires.seat ∙ sym tid),
+      omega (arith, inv.0, inv.1, inv.2, inv.3),
+      mv.adds sys (g.met.S.System.laws key.system.value) key.workers slots id me live (c.self.inside.words + (c.self.inside.scopes + c.self.inside.cells)) (omega (arith, inv.0, inv.1, inv.2)) (omega (arith, inv.0, inv.4)) (step slots (c.self.inside.words + (c.self.inside.scopes + c.self.inside.cells)) 1 0 none) (ap (λ (v : View). v.debt) vs ∙ c.requires.may),
+    )
+
+pub invariant_of-seat : goal.invariant_of-seat
+invariant_of-seat g c =
+    let e = c.fetch_add.ensures.2 in
+    let i = c.seat.invariant in (
+      i.0 ∙ (refl ∙ ap (λ (m : Me NoSlot View). m.0.number) (sym e)),
+      i.1,
+      ap (λ (m : Me NoSlot View). m.1) e ∙ i.2,
+      refl ∙ ap (λ (m : Me NoSlot View). m.0.debt) (sym e),
+    )
+
+pub returns-clause-view : goal.returns-clause-view
+returns-clause-view g c =
+    let e = c.fetch_add.ensures.2 in
+    let vs : c.seat.inside.seat.me.0 ≡ c.args.seat.now.1 = ap (λ (p : TableId × View). p.1) c.seat.view_is in
+    ap (λ (m : Me NoSlot View). m.0) e ∙ ap after_add vs
