@@ -6,3 +6,4 @@ pub mod IsArrayLaws
 pub mod ArrayMapLaws
 mod Examples
 pub mod Measures
+pub mod Values

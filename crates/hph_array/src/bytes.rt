@@ -1,4 +1,4 @@
-ghost use Rattle.std.specs.Prelude.{◌≡◌, ◌==◌, IfOk, length};
+ghost use Rattle.std.specs.Prelude.{◌≡◌, ◌==◌, IfOk, IfErr, length};
 ghost use Rattle.std.specs.Str.{bytes_eq};
 ghost use Rattle.std.specs.Cmp as Cmp;
 ghost use Rattle.std.specs.Cmp.Lexicographic.{nat_list_eq_equiv};
@@ -38,6 +38,18 @@ impl Bytes {
         ensures { IfOk result (λ string. string ≡ bytes.now) }
     {
         Bytes::new(alloc, Vec::from_slice(alloc, bytes)?)
+    }
+
+    /// Its buffer, if nothing else shares it, so that it can be written; else the byte string itself.
+    pub fn try_own(self) -> Result<Vec<u8>, Bytes>
+        ensures ok { IfOk result (λ buffer. buffer.items ≡ self) }
+        ensures err { IfErr result (λ string. string ≡ self) }
+    {
+        let Bytes { shared } = self;
+        match Rc::try_unwrap(shared) {
+            Ok(buffer) => Ok(buffer),
+            Err(shared) => Err(Bytes { shared }),
+        }
     }
 
     /// Its bytes.

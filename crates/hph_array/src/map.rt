@@ -1,5 +1,6 @@
 ghost use Rattle.std.specs.Prelude.{◌≡◌, [], ◌∷◌, ◌++◌, ◌==◌, ◌<◌, ◌≤◌, ◌^◌, ◌↔◌, length, false, OnOk, OnErr, IfOk, IsOk, IsSome, Err, Some, slice_get, slice_set};
 ghost use Rattle.std.specs.Option.{option_copied, option_map, is_some};
+ghost use Rattle.std.specs.Map.{values_of};
 ghost use Rattle.indexmap.specs.IndexSet.{contains};
 ghost use Rattle.hph_array.specs.Key.{key_eq};
 ghost use Rattle.hph_array.specs.Array.{IsArray, get, set, append, unset, replace, last, pop, fallen};
@@ -93,6 +94,20 @@ impl<V> OrdMap<V> {
     {
         let at = self.keys.get_index_of(key)?;
         item(&self.values, at)
+    }
+
+    /// Its values in order, in the memory that they have. It takes no memory.
+    #[tactic(auto, using(crate::proofs::Values::values_of_zip))]
+    pub fn into_values(self) -> Vec<V>
+        ensures { result.items ≡ values_of self.pairs }
+    {
+        let OrdMap {
+            keys,
+            values,
+            next: _,
+        } = self;
+        drop(keys);
+        values
     }
 
     /// The pair at a place, counted from 0.
