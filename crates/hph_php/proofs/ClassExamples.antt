@@ -19,7 +19,9 @@ use Rattle.hph_ast.specs.declared.class.Modifiers.{Modifiers}
 use Rattle.hph_ast.specs.declared.class.Access.TheVariants as access
 use Rattle.hph_ast.specs.declared.class.Member.TheOpen.{Class-F, Statement-F, Member-F}
 use Rattle.hph_php.specs.State.{Name}
-use Rattle.hph_php.specs.Answers.{Means, Done, bind, give}
+use Rattle.hph_wasm.specs.Outcome as outcome
+use Rattle.hph_wasm.specs.Outcome.{Done}
+use Rattle.hph_php.specs.Answers.{Means, bind, give}
 use Rattle.hph_php.specs.Values.{Value}
 use Rattle.hph_php.specs.Paths.{by_property}
 use Rattle.hph_php.specs.World.{World, Context}
@@ -32,7 +34,7 @@ use Rattle.hph_php.specs.Statements.{Way, goes_on, block}
 use Rattle.hph_php.specs.Executions.{class_statement}
 use Rattle.hph_php.specs.Files.{entering}
 use Rattle.hph_php.specs.Run as run
-use Rattle.hph_php.specs.Run.{Meanings, meanings_of, seen, a_function, initials, in_body, in_value, result_of}
+use Rattle.hph_php.specs.Run.{Meanings, meanings_of, outcome_of, a_function, initials, in_body, in_class, result_of}
 use Rattle.hph_php.proofs.Levels.{step_meaning, reading_rolled, class_rolled, member_rolled, step_rolled, statement_rolled, class_place_rolled}
 use Rattle.hph_php.proofs.RunExamples.{at0, int, var, sets, does, shows, gives, Reads, Does, AllDone, int_reads, var_reads, sets_reads, does_does, shows_does, gives_does, none_done, and_done, file}
 
@@ -135,25 +137,26 @@ program = record {
   paths = codes "m.php" ∷ [];
   classes = record { site = site_at 0 20; class = class_a } ∷ [];
   codes = placed_at 0 30 (a_body method_m (Some 0) false) ∷ placed_at 0 20 (initial_values ((codes "p", Some (int 5)) ∷ []) 0) ∷ [];
+  statics = [];
 }
 
 abbrev initial_p : (World → Context → Reading) → World → Means (List (Name × Value))
-initial_p r w = bind (r w (in_value 0 0)).value (λ v. bind (give []) (λ rest. give ((codes "p", v) ∷ rest)))
+initial_p r w = bind (r w (in_class program 0 0)).value (λ v. bind (give []) (λ rest. give ((codes "p", v) ∷ rest)))
 
 abbrev meaning : (World → Context → List (Means Way)) → (World → Context → List (Means Way)) → (World → Context → Reading) → Meanings
 meaning m k r = record {
-  files = (λ w. entering w 0 statements (λ c. block (m w c))) ∷ [];
-  routines = a_function false (λ w. []) (λ w. bind (block (k w (in_body 0 (Some 0)))) (λ way. give (result_of way))) ∷ initials (initial_p r) ∷ [];
+  files = (λ w. entering program 0 statements (λ c. m w c)) ∷ [];
+  routines = a_function (λ w. []) (λ w. bind (block (k w (in_body program 0 (Some 0)))) (λ way. give (result_of way))) ∷ initials 0 (initial_p r) ∷ [];
 }
 
 module _ (path : String Global) where
-  by_meaning : (n : ℕ) → seen (run.run program (meanings_of (file path statements ∷ []) program) n)
-      ≡ seen (run.run program (meaning statements_done.as_ method_done.as_ (int_reads 5).as_) n)
+  by_meaning : (n : ℕ) → outcome_of (run.run (meanings_of (file path statements ∷ []) program) n)
+      ≡ outcome_of (run.run (meaning statements_done.as_ method_done.as_ (int_reads 5).as_) n)
   unfolding out roll
-  by_meaning n = λ i. seen (run.run program (meaning (λ w c. statements_done.is w c i) (λ w c. method_done.is w c i) (λ w c. (int_reads 5).is w c i)) n)
+  by_meaning n = λ i. outcome_of (run.run (meaning (λ w c. statements_done.is w c i) (λ w c. method_done.is w c i) (λ w c. (int_reads 5).is w c i)) n)
 
   -- a unit for the file and one for the call
-  prints_property : (seen (run.run program (meanings_of (file path statements ∷ []) program) 2) ≡ record { out = codes "5"; end = Some Done })
-      × (seen (run.run program (meanings_of (file path statements ∷ []) program) 1) ≡ record { out = []; end = None })
+  prints_property : (outcome_of (run.run (meanings_of (file path statements ∷ []) program) 2) ≡ record { output = codes "5"; end = Done })
+      × (outcome_of (run.run (meanings_of (file path statements ∷ []) program) 1) ≡ record { output = []; end = outcome.More })
   unfolding statements_done method_done this_reads new_reads call_reads class_does out-Statement roll-Statement out-Member roll-Member out roll digits
   prints_property = (by_meaning 2 ∙ refl, by_meaning 1 ∙ refl)

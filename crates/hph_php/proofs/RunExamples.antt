@@ -25,7 +25,9 @@ use Rattle.hph_php.specs.Values.{Int, Str}
 use Rattle.hph_php.specs.Includes.{include}
 use Rattle.hph_ast.specs.declared.operator.Prefix.TheVariants as prefix
 use Rattle.hph_ast.specs.declared.operator.IncludeForm.TheVariants as form
-use Rattle.hph_php.specs.Answers.{Means, Done, bind, give, in_order}
+use Rattle.hph_wasm.specs.Outcome as outcome
+use Rattle.hph_wasm.specs.Outcome.{Outcome, Done}
+use Rattle.hph_php.specs.Answers.{Means, Stop, bind, give, in_order}
 use Rattle.hph_php.specs.Targets.{Reading, valued}
 use Rattle.hph_php.specs.World.{World, Context}
 use Rattle.hph_php.specs.Declarations.{Codes, Placed, a_body}
@@ -38,7 +40,7 @@ use Rattle.hph_php.specs.Answers.{nothing}
 use Rattle.hph_php.specs.Executions.{execute}
 use Rattle.hph_php.specs.Files.{entering}
 use Rattle.hph_php.specs.Run as run
-use Rattle.hph_php.specs.Run.{Meanings, meanings_of, seen, Seen}
+use Rattle.hph_php.specs.Run.{Meanings, meanings_of, outcome_of}
 use Rattle.hph_php.proofs.Levels.{reading_rolled, statement_rolled}
 
 -- ---- trees
@@ -151,8 +153,8 @@ bumps_reads name = record {
 
 abbrev calls_reads : (name : List ℕ) {e : Expr} → Reads e → Reads (calls name (e ∷ []))
 calls_reads name {e} p = record {
-  as_ = λ w c. valued (call_named w c.class name (p.as_ w c ∷ []));
-  is = λ w c. reading_rolled w c (Expr-F.Call at0 name (e ∷ [])) ∙ (λ i. valued (call_named w c.class name (p.is w c i ∷ [])));
+  as_ = λ w c. valued (call_named w c name (p.as_ w c ∷ []));
+  is = λ w c. reading_rolled w c (Expr-F.Call at0 name (e ∷ [])) ∙ (λ i. valued (call_named w c name (p.is w c i ∷ [])));
 }
 
 abbrev pub shows_does : {e : Expr} → Reads e → Does (shows e)
@@ -208,23 +210,23 @@ module _ (path : String Global) where
   file ss = record { path = path; bytes = []; tokens = []; tree = record { at = at0; statements = ss } }
 
   abbrev program : List Statement → List Placed → Codes
-  program ss cs = record { paths = codes "m.php" ∷ []; classes = []; codes = cs }
+  program ss cs = record { paths = codes "m.php" ∷ []; classes = []; codes = cs; statics = [] }
 
-  abbrev prints : List Statement → List Placed → ℕ → Seen
-  prints ss cs n = seen (run.run (program ss cs) (meanings_of (file ss ∷ []) (program ss cs)) n)
+  abbrev prints : List Statement → List Placed → ℕ → Outcome Stop
+  prints ss cs n = outcome_of (run.run (meanings_of (file ss ∷ []) (program ss cs)) n)
 
-  abbrev meaning : List Statement → (World → Context → List (Means Way)) → List Routine → Meanings
-  meaning ss m rs = record { files = (λ w. entering w 0 ss (λ c. block (m w c))) ∷ []; routines = rs }
+  abbrev meaning : List Statement → List Placed → (World → Context → List (Means Way)) → List Routine → Meanings
+  meaning ss cs m rs = record { files = (λ w. entering (program ss cs) 0 ss (λ c. m w c)) ∷ []; routines = rs }
 
-  by_meaning : {ss : List Statement} (d : AllDone ss) (n : ℕ) → prints ss [] n ≡ seen (run.run (program ss []) (meaning ss d.as_ []) n)
-  by_meaning {ss} d n = λ i. seen (run.run (program ss []) (meaning ss (λ w c. d.is w c i) []) n)
+  by_meaning : {ss : List Statement} (d : AllDone ss) (n : ℕ) → prints ss [] n ≡ outcome_of (run.run (meaning ss [] d.as_ []) n)
+  by_meaning {ss} d n = λ i. outcome_of (run.run (meaning ss [] (λ w c. d.is w c i) []) n)
 
   -- `echo 1 + 2;`
   sum_done : AllDone (shows (two b.Add (int 1) (int 2)) ∷ [])
   sum_done = and_done (shows_does (two_reads b.Add (int_reads 1) (int_reads 2))) none_done
 
-  prints_sum : (prints (shows (two b.Add (int 1) (int 2)) ∷ []) [] 1 ≡ record { out = codes "3"; end = Some Done })
-      × (prints (shows (two b.Add (int 1) (int 2)) ∷ []) [] 0 ≡ record { out = []; end = None })
+  prints_sum : (prints (shows (two b.Add (int 1) (int 2)) ∷ []) [] 1 ≡ record { output = codes "3"; end = Done })
+      × (prints (shows (two b.Add (int 1) (int 2)) ∷ []) [] 0 ≡ record { output = []; end = outcome.More })
   unfolding sum_done out-Statement roll-Statement out roll digits
   prints_sum = (by_meaning sum_done 1 ∙ refl, by_meaning sum_done 0 ∙ refl)
 
@@ -237,8 +239,8 @@ module _ (path : String Global) where
       (and_done (while_does (less_reads (var_reads (codes "i")) (int_reads 3))
       (and_done (shows_does (bumps_reads (codes "i"))) none_done)) none_done)
 
-  prints_count : (prints counting [] 4 ≡ record { out = codes "012"; end = Some Done })
-      × (prints counting [] 3 ≡ record { out = codes "01"; end = None })
+  prints_count : (prints counting [] 4 ≡ record { output = codes "012"; end = Done })
+      × (prints counting [] 3 ≡ record { output = codes "01"; end = outcome.More })
   unfolding counting_done out-Statement roll-Statement out roll digits
   prints_count = (by_meaning counting_done 4 ∙ refl, by_meaning counting_done 3 ∙ refl)
 
@@ -248,16 +250,15 @@ module _ (path : String Global) where
   function_code name body = record { site = record { file = 0; offset = 7 }; code = a_body (function_of_x name body) None false } ∷ []
 
   -- a body in its own context
-  abbrev body_routine : List ℕ → List Statement → (World → Context → List (Means Way)) → Routine
-  body_routine name body m = a_function false (λ w. parameters w (in_body 0 None) (function_of_x name body))
-      (λ w. bind (block (m w (in_body 0 None))) (λ way. give (result_of way)))
+  abbrev body_routine : Codes → List ℕ → List Statement → (World → Context → List (Means Way)) → Routine
+  body_routine p name body m = a_function (λ w. parameters w (in_body p 0 None) (function_of_x name body))
+      (λ w. bind (block (m w (in_body p 0 None))) (λ way. give (result_of way)))
 
   with_function : {ss : List Statement} (name : List ℕ) {body : List Statement} (d : AllDone ss) (e : AllDone body) (n : ℕ) →
       prints ss (function_code name body) n
-      ≡ seen (run.run (program ss (function_code name body)) (meaning ss d.as_ (body_routine name body e.as_ ∷ [])) n)
+      ≡ outcome_of (run.run (meaning ss (function_code name body) d.as_ (body_routine (program ss (function_code name body)) name body e.as_ ∷ [])) n)
   unfolding out roll
-  with_function {ss} name {body} d e n = λ i. seen (run.run (program ss (function_code name body))
-      (meaning ss (λ w c. d.is w c i) (body_routine name body (λ w c. e.is w c i) ∷ [])) n)
+  with_function {ss} name {body} d e n = λ i. outcome_of (run.run (meaning ss (function_code name body) (λ w c. d.is w c i) (body_routine (program ss (function_code name body)) name body (λ w c. e.is w c i) ∷ [])) n)
 
   -- `function f($x) { return $x + 1; } echo f(2);` takes a unit for the file and one for the call
   abbrev succ_body : List Statement
@@ -272,8 +273,8 @@ module _ (path : String Global) where
   calling_done : AllDone calling
   calling_done = and_done (declares_does (codes "f") succ_body) (and_done (shows_does (calls_reads (codes "f") (int_reads 2))) none_done)
 
-  prints_call : (prints calling (function_code (codes "f") succ_body) 2 ≡ record { out = codes "3"; end = Some Done })
-      × (prints calling (function_code (codes "f") succ_body) 1 ≡ record { out = []; end = None })
+  prints_call : (prints calling (function_code (codes "f") succ_body) 2 ≡ record { output = codes "3"; end = Done })
+      × (prints calling (function_code (codes "f") succ_body) 1 ≡ record { output = []; end = outcome.More })
   unfolding succ_done calling_done out-Statement roll-Statement out roll digits all_builtins
   prints_call = (with_function (codes "f") calling_done succ_done 2 ∙ refl, with_function (codes "f") calling_done succ_done 1 ∙ refl)
 
@@ -291,18 +292,18 @@ includes_reads bytes = record {
 
 module _ (path : String Global) where
   abbrev two_files : Codes
-  two_files = record { paths = codes "lib/m.php" ∷ codes "lib/b.php" ∷ []; classes = []; codes = [] }
+  two_files = record { paths = codes "lib/m.php" ∷ codes "lib/b.php" ∷ []; classes = []; codes = []; statics = [] }
 
   abbrev both_mean : List Statement → (World → Context → List (Means Way)) → List Statement → (World → Context → List (Means Way)) → Meanings
   both_mean ss m ts k = record {
-    files = (λ w. entering w 0 ss (λ c. block (m w c))) ∷ (λ w. entering w 1 ts (λ c. block (k w c))) ∷ [];
+    files = (λ w. entering two_files 0 ss (λ c. m w c)) ∷ (λ w. entering two_files 1 ts (λ c. k w c)) ∷ [];
     routines = [];
   }
 
   by_meanings : {ss ts : List Statement} (d : AllDone ss) (e : AllDone ts) (n : ℕ) →
-      seen (run.run two_files (meanings_of (file path ss ∷ file path ts ∷ []) two_files) n)
-      ≡ seen (run.run two_files (both_mean ss d.as_ ts e.as_) n)
-  by_meanings {ss} {ts} d e n = λ i. seen (run.run two_files (both_mean ss (λ w c. d.is w c i) ts (λ w c. e.is w c i)) n)
+      outcome_of (run.run (meanings_of (file path ss ∷ file path ts ∷ []) two_files) n)
+      ≡ outcome_of (run.run (both_mean ss d.as_ ts e.as_) n)
+  by_meanings {ss} {ts} d e n = λ i. outcome_of (run.run (both_mean ss (λ w c. d.is w c i) ts (λ w c. e.is w c i)) n)
 
   -- in lib/m.php: `include_once 'b.php'; include_once 'b.php'; echo 1;`, and in lib/b.php: `echo 2;`
   abbrev main_file : List Statement
@@ -318,7 +319,7 @@ module _ (path : String Global) where
   other_done : AllDone other_file
   other_done = and_done (shows_does (int_reads 2)) none_done
 
-  prints_include : seen (run.run two_files (meanings_of (file path main_file ∷ file path other_file ∷ []) two_files) 2)
-      ≡ record { out = codes "21"; end = Some Done }
+  prints_include : outcome_of (run.run (meanings_of (file path main_file ∷ file path other_file ∷ []) two_files) 2)
+      ≡ record { output = codes "21"; end = Done }
   unfolding main_done other_done out-Statement roll-Statement out roll digits
   prints_include = by_meanings main_done other_done 2 ∙ refl

@@ -1,13 +1,14 @@
 -- Classes and objects (PHP manual, Classes and Objects, Late Static Bindings, Scope Resolution Operator): which class an
 -- expression names, methods, objects, constants and static properties.
-use Rattle.std.specs.Prelude.{ℕ, zero, suc, Bool, true, false, List, [], ◌∷◌, fold, Option, None, Some, if◌then◌else◌, codes}
-use Rattle.std.specs.Option.{option_map, option_map_or, unwrap_or}
+use Rattle.std.specs.Prelude.{ℕ, zero, suc, Bool, true, false, List, [], ◌∷◌, fold, Option, None, Some, Result, Ok, Err, if◌then◌else◌, codes}
+use Rattle.std.specs.Option.{option_map, option_map_or, unwrap_or, ok_or}
 use Rattle.hph_php.specs.declared.fatal.Fatal.{Fatal}
-use Rattle.hph_php.specs.declared.fatal.Fatal.TheVariants.{UndefinedClass, UndefinedMethod, UndefinedProperty, UndefinedConstant, NotObject, StaticCall}
+use Rattle.hph_php.specs.declared.fatal.Fatal.TheVariants.{UndefinedClass, NotObject, StaticCall}
 use Rattle.hph_php.specs.Values.{Value, Boolean, Obj}
-use Rattle.hph_php.specs.State.{State, Core, Class, Frame, Name, with_named, class_named, class_numbered, class_of, next_object, with_object, on_core, next_location, with_location, value_at, write_at, static_property, with_static_property}
-use Rattle.hph_php.specs.Members.{Declared, is_kind_of, lineage, method_of, constant_of, static_property_of, seen}
-use Rattle.hph_php.specs.Answers.{Means, bind, first, give, fail, look, change, by_state, settle, found_or}
+use Rattle.hph_php.specs.Conversions.{and_then, map_ok}
+use Rattle.hph_php.specs.State.{State, Heap, Class, Name, with_named, class_named, class_numbered, class_of, class_of_object, next_object, object_in, write_at, place_static, placed_static, initial_due, late_class, this_object}
+use Rattle.hph_php.specs.Members.{Declared, is_kind_of, lineage, method_of, seen, method_for, constant_for, static_property_for}
+use Rattle.hph_php.specs.Answers.{Means, bind, first, give, fail, look, by_state, by_heap, change_heap, change_places, settle}
 use Rattle.hph_php.specs.World.{World, Context, Receiver, a_class, an_object}
 use Rattle.hph_php.specs.Targets.{Reading}
 use Rattle.hph_php.specs.Calls.{arguments}
@@ -23,83 +24,91 @@ pub record ClassChoice : Type 0 where
 abbrev pub number_of_class : Option Class → Option ℕ
 number_of_class c = option_map (λ (c : Class). c.number) c
 
+-- a class that is declared
+abbrev pub class_in : Name → Heap → Result ℕ Fatal
+class_in name heap = ok_or (number_of_class (class_named name heap)) UndefinedClass
+
 abbrev pub named_class : Name → ClassChoice
-named_class name = record { number = look (λ st. number_of_class (class_named name st.core)); forwards = false }
+named_class name = record { number = look (λ st. number_of_class (class_named name st.core.heap)); forwards = false }
 
-abbrev pub parent_in : Core → Option ℕ → Option ℕ
-parent_in core class = option_map_or (λ number. option_map_or (λ (c : Class). c.parent) (class_numbered number core) None) class None
-
-abbrev pub late_class : State → Option ℕ
-late_class st = option_map_or (λ (f : Frame). f.static_class) st.frame None
-
-abbrev pub this_object : State → Option ℕ
-this_object st = option_map_or (λ (f : Frame). f.object) st.frame None
+abbrev pub parent_in : Heap → Option ℕ → Option ℕ
+parent_in heap class = option_map_or (λ number. option_map_or (λ (c : Class). c.parent) (class_numbered number heap) None) class None
 
 module _ (context : Context) where
   abbrev pub self_class : ClassChoice
   self_class = record { number = give context.class; forwards = true }
 
   abbrev pub parent_class : ClassChoice
-  parent_class = record { number = look (λ st. parent_in st.core context.class); forwards = true }
+  parent_class = record { number = look (λ st. parent_in st.core.heap context.class); forwards = true }
 
-  -- in a constant or an initial value it is the class that declares it
-  abbrev pub static_class : ClassChoice
-  static_class = record { number = if context.is_initial then give context.class else look late_class; forwards = true }
+-- that of the frame
+abbrev pub static_class : ClassChoice
+static_class = record { number = look late_class; forwards = true }
 
 abbrev pub declared : ClassChoice → Means ℕ
-declared c = bind c.number (found_or UndefinedClass)
+declared c = bind c.number (λ number. settle (ok_or number UndefinedClass))
 
 -- `x instanceof C`: false for what is no object and for a class that isn't declared
-abbrev pub is_instance : Core → Value → Option ℕ → Bool
-is_instance core (Obj object) (Some class) = option_map_or (λ c. is_kind_of core c class) (class_of core object) false
-is_instance core _ _ = false
+abbrev pub is_instance : Heap → Value → Option ℕ → Bool
+is_instance heap (Obj object) (Some class) = option_map_or (λ c. is_kind_of heap c class) (class_of heap object) false
+is_instance heap _ _ = false
 
 abbrev pub instance_of : Value → ClassChoice → Means Value
-instance_of v c = bind c.number (λ class. look (λ st. Boolean (is_instance st.core v class)))
+instance_of v c = bind c.number (λ class. look (λ st. Boolean (is_instance st.core.heap v class)))
+
+-- ---- which code a call of a method runs, and on what
+
+pub record Called : Type 0 where
+  pub code : ℕ
+  pub receiver : Receiver
+
+-- a method of an object: a static one is called on the object's class
+abbrev pub on_object : ℕ → ℕ → Declared → Called
+on_object object class d =
+    record { code = d.member.code; receiver = if d.member.is_static then a_class class else an_object object }
+
+-- `$this` is kept if it is an instance of the class
+abbrev pub kept_object : Heap → Option ℕ → ℕ → Option ℕ
+kept_object heap this class =
+    option_map_or (λ object. if is_instance heap (Obj object) (Some class) then Some object else None) this None
+
+-- a method that is called by its class: a static one on the late static class, another one on the `$this` that is kept
+abbrev pub on_class : Option ℕ → ℕ → ℕ → Declared → Heap → Result Called Fatal
+on_class this class late d heap =
+    if d.member.is_static then Ok (record { code = d.member.code; receiver = a_class late })
+    else option_map_or (λ object. Ok (record { code = d.member.code; receiver = an_object object })) (kept_object heap this class)
+    (Err StaticCall)
+
+module _ (within : Option ℕ) where
+  -- `$x->m()`
+  abbrev pub method_on : Value → Name → Heap → Result Called Fatal
+  method_on (Obj object) name heap =
+      map_ok (on_object object (class_of_object heap object)) (method_for within (class_of_object heap object) name heap)
+  method_on _ name heap = Err NotObject
+
+  -- `C::m()`, with the `$this` and the late static class that it may pass on
+  abbrev pub method_by : Option ℕ → ℕ → ℕ → Name → Heap → Result Called Fatal
+  method_by this class late name heap = and_then (method_for within class name heap) (λ d. on_class this class late d heap)
+
+  -- the constructor of a new object of a class, if it has one
+  abbrev pub constructor_for : ℕ → ℕ → Heap → Result (Option Called) Fatal
+  constructor_for object class heap = option_map_or (λ d. map_ok (λ d. Some (on_object object class d)) (seen heap within d))
+      (method_of heap class (codes "__construct")) (Ok None)
+
+-- `self`, `parent` and `static` pass on the late static class, a name sets it
+abbrev pub called_class : Bool → ℕ → State → ℕ
+called_class forwards class st = if forwards then unwrap_or (late_class st) class else class
 
 module _ (world : World) (context : Context) where
-  -- a member that is there and may be used
-  abbrev pub usable : Fatal → Option Declared → Means Declared
-  usable missing d = bind (found_or missing d) (λ m. by_state (λ st. settle (seen st.core context.class m)))
-
-  abbrev pub call_with : Name → List Reading → ℕ → Receiver → Means Value
-  call_with name xs code receiver = bind (arguments world.program true name xs) (λ args. world.call code receiver args)
-
-  -- ---- `$x->m()`
-
-  abbrev pub object_of : Value → Means ℕ
-  object_of (Obj object) = give object
-  object_of _ = fail NotObject
-
-  abbrev pub class_of_object : ℕ → State → ℕ
-  class_of_object object st = unwrap_or (class_of st.core object) 0
-
-  abbrev pub method_in : ℕ → Name → Means Declared
-  method_in class name = by_state (λ st. usable UndefinedMethod (method_of st.core class name))
+  abbrev pub call_with : Name → List Reading → Called → Means Value
+  call_with name xs called = bind (arguments context.program true name xs) (λ args. world.call called.code called.receiver args)
 
   abbrev pub call_method : Means Value → Name → List Reading → Means Value
-  call_method x name xs = bind x (λ v. bind (object_of v) (λ object. bind (look (class_of_object object)) (λ class.
-      bind (method_in class name) (λ d. call_with name xs d.member.code (an_object object class)))))
-
-  -- ---- `C::m()`
-
-  abbrev pub called_class : Bool → ℕ → State → ℕ
-  called_class forwards class st = if forwards then unwrap_or (late_class st) class else class
-
-  -- `$this` is kept if it is an instance of the class
-  abbrev pub kept_this : ℕ → State → Option ℕ
-  kept_this class st = option_map_or (λ object. if is_instance st.core (Obj object) (Some class) then Some object else None)
-      (this_object st) None
-
-  abbrev pub static_receiver : Bool → ℕ → ℕ → Means Receiver
-  static_receiver true class late = give (a_class late)
-  static_receiver false class late =
-      by_state (λ st. option_map_or (λ object. give (an_object object late)) (kept_this class st) (fail StaticCall))
+  call_method x name xs = bind x (λ v. bind (by_heap (method_on context.class v name)) (call_with name xs))
 
   abbrev pub call_static : ClassChoice → Name → List Reading → Means Value
-  call_static c name xs = bind (declared c) (λ class. bind (method_in class name) (λ d.
-      bind (look (called_class c.forwards class)) (λ late. bind (static_receiver d.member.is_static class late)
-      (λ receiver. call_with name xs d.member.code receiver))))
+  call_static c name xs = bind (declared c) (λ class. bind (by_state (λ st.
+      by_heap (method_by context.class (this_object st) class (called_class c.forwards class st) name))) (call_with name xs))
 
   -- ---- `new C`
 
@@ -111,52 +120,34 @@ module _ (world : World) (context : Context) where
 
   -- the object is there when it has all its initial values
   abbrev pub make_object : ℕ → Means ℕ
-  make_object class = bind (by_state (λ st. initials_of (lineage st.core class))) (λ values. by_state (λ st.
-      first (change (on_core (with_object (record { class = class; properties = values })))) (give (next_object st.core))))
-
-  abbrev pub usable_if : Option Declared → Means (Option Declared)
-  usable_if None = give None
-  usable_if (Some d) = bind (usable UndefinedMethod (Some d)) (λ m. give (Some m))
+  make_object class = bind (by_state (λ st. initials_of (lineage st.core.heap class))) (λ values. by_state (λ st.
+      first (change_heap (object_in class values)) (give (next_object st.core.heap))))
 
   -- arguments without a constructor are evaluated and dropped
-  abbrev pub construct : Option Declared → ℕ → ℕ → List Reading → Means Value
-  construct None object class xs = bind (arguments world.program true (codes "__construct") xs) (λ args. give (Obj object))
-  construct (Some d) object class xs =
-      bind (call_with (codes "__construct") xs d.member.code (an_object object class)) (λ v. give (Obj object))
+  abbrev pub construct : ℕ → List Reading → Option Called → Means Value
+  construct object xs None = bind (arguments context.program true (codes "__construct") xs) (λ args. give (Obj object))
+  construct object xs (Some called) = bind (call_with (codes "__construct") xs called) (λ v. give (Obj object))
 
   abbrev pub new_object : ClassChoice → List Reading → Means Value
   new_object c xs = bind (declared c) (λ class. bind (make_object class) (λ object.
-      bind (by_state (λ st. usable_if (method_of st.core class (codes "__construct")))) (λ d. construct d object class xs)))
+      bind (by_heap (constructor_for context.class object class)) (construct object xs)))
 
   -- ---- constants and static properties
 
   abbrev pub class_constant : ClassChoice → Name → Means Value
-  class_constant c name = bind (declared c) (λ class.
-      bind (by_state (λ st. found_or UndefinedConstant (constant_of st.core class name))) (λ d. world.constant d.member.code))
+  class_constant c name = bind (declared c) (λ class. bind (by_heap (constant_for class name)) (λ d. world.constant d.member.code))
 
-  -- a location for the class that declares it, made at the first access
-  abbrev pub add_static : ℕ → Name → State → State
-  add_static class name st =
-      on_core (λ core. with_static_property class name (next_location core) (with_location None core)) st
+  -- the location's initial value is evaluated by the code that is due
+  abbrev pub initialised : ℕ → ℕ → Means ℕ
+  initialised location zero = give location
+  initialised location (suc code) =
+      bind (world.initial (suc code)) (λ v. first (change_places (write_at location v)) (give location))
 
-  abbrev pub place_static : ℕ → Name → State → State
-  place_static class name st = option_map_or (λ _. st) (static_property class name st.core) (add_static class name st)
+  abbrev pub initialise : Declared → ℕ → Means ℕ
+  initialise d location = by_state (λ st. initialised location (initial_due location d.member.code st.core.places))
 
-  -- it stays unset where it has no initial value
-  abbrev pub initialised : ℕ → ℕ → Option Value → Means ℕ
-  initialised zero location v = give location
-  initialised (suc code) location (Some v) = give location
-  initialised (suc code) location None =
-      bind (world.initial (suc code)) (λ v. first (change (on_core (write_at location v))) (give location))
-
-  -- the location of `C::$p`
+  -- the location of `C::$p`, made at the first access
   abbrev pub static_location : ClassChoice → Name → Means ℕ
-  static_location c name = bind (declared c) (λ class.
-      bind (by_state (λ st. usable UndefinedProperty (static_property_of st.core class name))) (λ d.
-      first (change (place_static d.class name)) (by_state (λ st. at_place d st))))
-    where
-      initialise : Declared → State → ℕ → Means ℕ
-      initialise d st location = initialised d.member.code location (value_at st.core location)
-
-      at_place : Declared → State → Means ℕ
-      at_place d st = initialise d st (unwrap_or (static_property d.class name st.core) 0)
+  static_location c name = bind (declared c) (λ class. bind (by_heap (static_property_for context.class class name)) (λ d.
+      first (change_places (place_static d.class name))
+      (bind (look (λ st. placed_static d.class name st.core.places)) (initialise d))))

@@ -1,5 +1,6 @@
 -- The declarations of a program in order of file and text, and the code that they hold: bodies of functions and methods, values
--- of class constants and static properties, and initial values of objects. Each piece of code goes by a number from 1 on.
+-- of class constants and static properties, and initial values of objects. Each piece of code goes by a number from 1 on, and each
+-- static variable by one from 0 on.
 use Rattle.std.specs.Prelude.{string_bytes, zero, ℕ, Bool, true, false, List, [], ◌∷◌, ◌++◌, map, flat_map, suc, position, Option, None, Some, slice_get, bytes_eq}
 use Rattle.std.specs.List.{filter_map, list_any, filter}
 use Rattle.std.specs.Option.{option_map, option_map_or, unwrap_or}
@@ -16,6 +17,7 @@ use Rattle.hph_ast.specs.declared.class.ConstantItem.{ConstantItem}
 use Rattle.hph_ast.specs.declared.class.Member.TheOpen.{Member-F, Statement-F, Class-F, Function-F, Case-F, ElseIf-F}
 use Rattle.hph_ast.specs.declared.class.Member.TheFolds.{para-Statement}
 use Rattle.hph_ast.specs.declared.stmt.Statement.{Statement}
+use Rattle.hph_ast.specs.declared.stmt.StaticVariable.{StaticVariable}
 use Rattle.hph_ast.specs.declared.stmt.Case.{Case}
 use Rattle.hph_ast.specs.declared.stmt.ElseIf.{ElseIf}
 use Rattle.hph_ast.specs.declared.program.File.{File}
@@ -23,11 +25,12 @@ use Rattle.hph_ast.specs.declared.program.Program.{Program}
 use Rattle.hph_php.specs.State.{Name, folded, Site, is_site, Visibility, Public, Protected, Private}
 use Rattle.hph_php.specs.State as state
 
--- a function, a class, and a method of the class that begins at an offset
+-- a function, a class, a method of the class that begins at an offset, and a static variable whose name stands at an offset
 pub data Declaration : Type 0 where
   a_function : (function : Function) → Declaration
   a_class : (class : Class) → Declaration
   a_method : (class : ℕ) → (is_static : Bool) → (function : Function) → Declaration
+  a_static : (offset : ℕ) → Declaration
 
 abbrev pub Found : Type 0
 Found = List Declaration
@@ -66,6 +69,7 @@ statement_found (Statement-F.DoWhile at body x) = body.1
 statement_found (Statement-F.For at init test step body) = body.1
 statement_found (Statement-F.Foreach at x key value body) = body.1
 statement_found (Statement-F.Switch at x cases) = flat_map (λ c. c.1) cases
+statement_found (Statement-F.Static at variables) = map (λ (v : StaticVariable). a_static v.name.start) variables
 statement_found _ = []
 
 -- the declarations in a statement, in order of text, a class before its methods
@@ -90,11 +94,13 @@ pub record PlacedClass : Type 0 where
   pub site : Site
   pub class : Class
 
--- a program as its meaning goes through it: the paths of its files, its classes by their numbers, and its code
+-- a program as its meaning goes through it: the paths of its files, its classes by their numbers, its code, and the places of its
+-- static variables by their numbers
 pub record Codes : Type 0 where
   pub paths : List (List ℕ)
   pub classes : List PlacedClass
   pub codes : List Placed
+  pub statics : List Site
 
 abbrev pub site_at : ℕ → ℕ → Site
 site_at file offset = record { file = file; offset = offset }
@@ -122,6 +128,19 @@ abbrev pub declaration_site : ℕ × Declaration → Site
 declaration_site (file, a_function f) = site_at file (out-Function f).at.start
 declaration_site (file, a_class c) = site_at file (out-Class c).at.start
 declaration_site (file, a_method class is_static f) = site_at file (out-Function f).at.start
+declaration_site (file, a_static offset) = site_at file offset
+
+-- the declarations that are scopes: all but static variables
+abbrev pub is_scope : Declaration → Bool
+is_scope (a_static offset) = false
+is_scope _ = true
+
+abbrev pub static_declaration : ℕ × Declaration → Option Site
+static_declaration (file, a_static offset) = Some (site_at file offset)
+static_declaration _ = None
+
+abbrev pub static_declarations : Program → List Site
+static_declarations p = filter_map static_declaration (all_declarations p)
 
 abbrev pub class_declaration : ℕ × Declaration → Option PlacedClass
 class_declaration (file, a_class c) = Some (record { site = site_at file (out-Class c).at.start; class = c })
@@ -190,11 +209,15 @@ all_codes p =
     ++ map initial_code (numbered_from 0 (class_declarations p))))
 
 abbrev pub codes_of : Program → Codes
-codes_of p = record { paths = map path_of p.files; classes = class_declarations p; codes = all_codes p }
+codes_of p = record { paths = map path_of p.files; classes = class_declarations p; codes = all_codes p; statics = static_declarations p }
 
 -- the number of the code at a place, 0 where there is none
 abbrev pub code_number : Codes → Site → ℕ
 code_number p site = option_map_or suc (position (λ c. is_site site c.site) p.codes) 0
+
+-- the number of the static variable at a place
+abbrev pub static_number : Codes → Site → ℕ
+static_number p site = unwrap_or (position (is_site site) p.statics) 0
 
 abbrev pub code_numbered : Codes → ℕ → Option Code
 code_numbered p zero = None

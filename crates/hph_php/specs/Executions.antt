@@ -1,7 +1,6 @@
 -- The meaning of each statement of a tree, and how functions and classes are declared (PHP manual, User-defined functions, The
 -- Basics of classes). A declaration whose name exists is a fatal error, and so is a parent that isn't declared.
-use Rattle.std.specs.Prelude.{ℕ, ◌==◌, ◌||◌, Bool, List, [], ◌∷◌, map, is_some, Option, None, Some, position, slice_get, if◌then◌else◌}
-use Rattle.std.specs.List.{list_any}
+use Rattle.std.specs.Prelude.{ℕ, ◌||◌, Bool, List, [], ◌∷◌, map, is_some, Option, None, Some, Result, Ok, Err, position, slice_get, if◌then◌else◌}
 use Rattle.std.specs.Option.{option_map, option_map_or, unwrap_or}
 use Rattle.hph_ast.specs.declared.token.Identifier.{Identifier}
 use Rattle.hph_ast.specs.declared.expr.Expr.{Expr}
@@ -13,31 +12,40 @@ use Rattle.hph_ast.specs.declared.stmt.Statement.{Statement}
 use Rattle.hph_ast.specs.declared.stmt.StaticVariable.{StaticVariable}
 use Rattle.hph_ast.specs.declared.stmt.ForeachTarget.{ForeachTarget}
 use Rattle.hph_ast.specs.declared.stmt.ForeachTarget.TheVariants as target
-use Rattle.hph_php.specs.declared.fatal.Fatal.TheVariants.{Redeclare, UndefinedClass}
+use Rattle.hph_php.specs.declared.fatal.Fatal.{Fatal}
+use Rattle.hph_php.specs.declared.fatal.Fatal.TheVariants.{Redeclare}
 use Rattle.hph_php.specs.Values.{Value}
+use Rattle.hph_php.specs.Conversions.{map_ok}
 use Rattle.hph_php.specs.Codes.{builtin_named}
-use Rattle.hph_php.specs.State.{Core, Name, Site, is_site, folded, named, with_function, with_class, class_named, on_core}
-use Rattle.hph_php.specs.Answers.{Means, bind, give, nothing, fail, change, by_state, found_or, print, in_order}
-use Rattle.hph_php.specs.Declarations.{Codes, PlacedClass, site_at, code_number, class_number, declared_class}
+use Rattle.hph_php.specs.State.{Heap, Name, Site, is_site, folded, named, with_function, with_class, class_named}
+use Rattle.hph_php.specs.Answers.{Means, bind, give, nothing, change, by_heap, change_heap, remake_heap, print, in_order}
+use Rattle.hph_php.specs.Declarations.{Codes, PlacedClass, site_at, code_number, class_number, static_number, declared_class}
 use Rattle.hph_php.specs.World.{World, Context}
 use Rattle.hph_php.specs.Targets.{Reading}
 use Rattle.hph_php.specs.Expressions.{reading, evaluate}
+use Rattle.hph_php.specs.Classes.{class_in}
 use Rattle.hph_php.specs.Operations.{echo}
 use Rattle.hph_php.specs.Statements.{Way, Next, Breaks, Continues, goes_on, block, branches, truth, loop, loop_after, for_loop, dropped, foreach, Case, switch, global_variable, static_variable_with, unset_by, define_constant, return_with, level_of}
 
 -- ---- declarations
 
-abbrev pub is_function : Name → Core → Bool
-is_function name core = is_some (builtin_named name) || is_some (named (folded name) core.functions)
+abbrev pub is_function : Name → Heap → Bool
+is_function name heap = is_some (builtin_named name) || is_some (named (folded name) heap.functions)
+
+abbrev pub declare_in : Name → ℕ → Heap → Result Heap Fatal
+declare_in name code heap = if is_function name heap then Err Redeclare else Ok (with_function name code heap)
 
 abbrev pub declare_function : Name → ℕ → Means (Unit {0})
-declare_function name code = by_state (λ st.
-    if is_function name st.core then fail Redeclare else change (on_core (with_function name code)))
+declare_function name code = remake_heap (declare_in name code)
 
 -- the parent that a class names, if it names one, is declared
-abbrev pub parent_number : Option Name → Means (Option ℕ)
-parent_number None = give None
-parent_number (Some name) = by_state (λ st. bind (found_or UndefinedClass (class_named name st.core)) (λ c. give (Some c.number)))
+abbrev pub parent_for : Option Name → Heap → Result (Option ℕ) Fatal
+parent_for None heap = Ok None
+parent_for (Some name) heap = map_ok Some (class_in name heap)
+
+-- the parent of a class that may be declared: the name is tested first, then the parent
+abbrev pub begin_class : Name → Option Name → Heap → Result (Option ℕ) Fatal
+begin_class name parent heap = if is_some (class_named name heap) then Err Redeclare else parent_for parent heap
 
 abbrev pub parent_name : PlacedClass → Option Name
 parent_name c = option_map (λ (i : Identifier). i.spelled) (out-Class c.class).parent
@@ -45,10 +53,9 @@ parent_name c = option_map (λ (i : Identifier). i.spelled) (out-Class c.class).
 abbrev pub class_name : PlacedClass → Name
 class_name c = (out-Class c.class).name.spelled
 
--- the name is tested first, then the parent
 abbrev pub declare_class : Codes → ℕ → PlacedClass → Means (Unit {0})
-declare_class program number c = by_state (λ st. if is_some (class_named (class_name c) st.core) then fail Redeclare
-    else bind (parent_number (parent_name c)) (λ parent. change (on_core (with_class (declared_class program number parent c)))))
+declare_class program number c = bind (by_heap (begin_class (class_name c) (parent_name c))) (λ parent.
+    change_heap (with_class (declared_class program number parent c)))
 
 abbrev pub declare_class_at : Codes → Site → Means (Unit {0})
 declare_class_at program site = option_map_or (declare_class program (class_number program.classes site))
@@ -71,22 +78,18 @@ pub record Place : Type 0 where
   pub offset : ℕ
 
 module _ (world : World) (context : Context) where
-  abbrev pub is_made : ℕ → Bool
-  is_made offset = list_any (λ o. o == offset) context.made
-
-  -- what was declared when the file was entered is passed
   abbrev pub function_statement : Place → Means (Unit {0})
-  function_statement p =
-      if is_made p.offset then nothing else declare_function p.name (code_number world.program (site_at context.file p.offset))
+  function_statement p = declare_function p.name (code_number context.program (site_at context.file p.offset))
 
   abbrev pub class_statement : ℕ → Means (Unit {0})
-  class_statement offset = if is_made offset then nothing else declare_class_at world.program (site_at context.file offset)
+  class_statement offset = declare_class_at context.program (site_at context.file offset)
 
   abbrev pub values : List Expr → List (Means Value)
   values xs = map (evaluate world context) xs
 
   abbrev pub static_statement : StaticVariable → Means (Unit {0})
-  static_statement v = static_variable_with (site_at context.file v.name.start) v.name.spelled (option_map (evaluate world context) v.value)
+  static_statement v = static_variable_with (static_number context.program (site_at context.file v.name.start)) v.name.spelled
+      (option_map (evaluate world context) v.value)
 
   abbrev pub unset_statement : Reading → Means (Unit {0})
   unset_statement x = unset_by context.class x.form x

@@ -7,14 +7,14 @@ use Rattle.hph_php.specs.declared.fatal.Fatal.TheVariants.{UndefinedClass}
 use Rattle.hph_php.specs.Values.{Value, Null, Int, Str, array_value, empty_array}
 use Rattle.hph_php.specs.Arrays.{Array}
 use Rattle.hph_php.specs.State.{Name}
-use Rattle.hph_php.specs.Answers.{Means, Exit, bind, give, fail, through, end_with, each}
+use Rattle.hph_php.specs.Answers.{Means, Exits, bind, give, fail, through, end_with, each}
 use Rattle.hph_php.specs.Paths.{PathStep, by_key, at_end, by_property}
 use Rattle.hph_php.specs.World.{World, Context}
 use Rattle.hph_php.specs.Targets.{Reading, Form, a_path, from_directory, another, a_location, valued, read, try, all_set, is_empty_value}
 use Rattle.hph_php.specs.Calls.{call_named}
 use Rattle.hph_php.specs.Classes.{ClassChoice, named_class, self_class, parent_class, static_class, call_method, call_static, new_object, class_constant, static_location}
 use Rattle.hph_php.specs.Includes.{directory_of}
-use Rattle.hph_php.specs.Operations.{constant_named, variable, share, run, pair, ternary, short_ternary, exit_with, prefix, instances, assignment, moved_by, add_last, add_keyed, text_of}
+use Rattle.hph_php.specs.Operations.{constant_named, variable, share_forms, run, pair, ternary, short_ternary, exit_with, prefix, instances, assignment, moved_by, add_last, add_keyed, text_of}
 
 -- ---- nodes
 
@@ -30,7 +30,7 @@ module _ (world : World) (context : Context) where
   class_by (ClassReference-F.ByName at name) = named_class name
   class_by (ClassReference-F.SelfClass at) = self_class context
   class_by (ClassReference-F.Parent at) = parent_class context
-  class_by (ClassReference-F.Static at) = static_class context
+  class_by (ClassReference-F.Static at) = static_class
   class_by (ClassReference-F.ByExpression at x) = record { number = fail UndefinedClass; forwards = false }
 
   -- a key is converted after the value was evaluated; references and holes are refused
@@ -93,9 +93,9 @@ module _ (world : World) (context : Context) where
   reading_by (Expr-F.Interpolated at parts) = valued (bind (through parts []) (λ text. give (Str text)))
   reading_by (Expr-F.Variable at name) = variable name
   reading_by (Expr-F.Constant at name) = valued (constant_named name)
-  reading_by (Expr-F.Directory at) = with_form from_directory (valued (give (Str (directory_of world.program context.file))))
+  reading_by (Expr-F.Directory at) = with_form from_directory (valued (give (Str (directory_of context.program context.file))))
   reading_by (Expr-F.Array at form items) = valued (bind (through items empty_array) (λ elements. give (array_value elements)))
-  reading_by (Expr-F.Call at name xs) = valued (call_named world context.class name xs)
+  reading_by (Expr-F.Call at name xs) = valued (call_named world context name xs)
   reading_by (Expr-F.StaticCall at class name xs) = valued (call_static world context class name xs)
   reading_by (Expr-F.MethodCall at x name xs) = valued (call_method world context x.value name xs)
   reading_by (Expr-F.New at class xs) = valued (new_object world context class xs)
@@ -104,7 +104,7 @@ module _ (world : World) (context : Context) where
   reading_by (Expr-F.Paren at x) = valued x.value
   reading_by (Expr-F.Isset at xs) = valued (all_set context.class xs)
   reading_by (Expr-F.Empty at x) = valued (bind (try context.class x) (λ v. give (is_empty_value v)))
-  reading_by (Expr-F.Exit at) = valued (end_with (Exit (pos 0)))
+  reading_by (Expr-F.Exit at) = valued (end_with (Exits (pos 0)))
   reading_by (Expr-F.ExitWith at x) = valued (bind x.value exit_with)
   reading_by (Expr-F.Path at x steps) = path x steps
   reading_by (Expr-F.Update at form x) = valued (moved_by context.class form x)
@@ -115,7 +115,7 @@ module _ (world : World) (context : Context) where
   reading_by (Expr-F.Ternary at x y z) = valued (ternary x.value y.value z.value)
   reading_by (Expr-F.ShortTernary at x more) = valued (bind x.value (λ v. short_ternary v more))
   reading_by (Expr-F.Assign at op x y) = valued (assignment context.class op x y)
-  reading_by (Expr-F.AssignReference at x y ampersand) = valued (share x.form y.form)
+  reading_by (Expr-F.AssignReference at x y ampersand) = valued (share_forms x.form y.form)
   -- the last forms are refused
   reading_by (Expr-F.DynamicCall at x xs) = x
   reading_by (Expr-F.ClassName at class colons) = valued (give Null)

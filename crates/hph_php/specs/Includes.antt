@@ -9,8 +9,8 @@ use Rattle.hph_ast.specs.declared.operator.IncludeForm.TheVariants as form
 use Rattle.hph_php.specs.Values.{Value, Null}
 use Rattle.hph_php.specs.Conversions.{to_text}
 use Rattle.hph_php.specs.StringFunctions.{explode, implode}
-use Rattle.hph_php.specs.State.{is_entered, enter, on_core}
-use Rattle.hph_php.specs.Answers.{Means, bind, first, give, nothing, change, by_state, settle}
+use Rattle.hph_php.specs.State.{is_entered, enter}
+use Rattle.hph_php.specs.Answers.{Means, bind, first, give, nothing, change_heap, by_state, settle}
 use Rattle.hph_php.specs.Declarations.{Codes}
 use Rattle.hph_php.specs.World.{World, Context}
 use Rattle.hph_php.specs.Targets.{Reading, Form, from_directory}
@@ -81,8 +81,8 @@ is_once _ = false
 
 -- the _once forms enter only a file that wasn't entered
 abbrev pub enter_file : World → Bool → ℕ → Means (Unit {0})
-enter_file world once file = by_state (λ st. if once && is_entered file st.core then nothing
-    else first (change (on_core (enter file))) (world.enter file))
+enter_file world once file = by_state (λ st. if once && is_entered file st.core.heap then nothing
+    else first (change_heap (enter file)) (world.enter file))
 
 -- an include is a whole statement, so nothing asks for its value; an accepted program has all files that it includes
 abbrev pub include : World → Context → IncludeForm → Reading → Means Value
@@ -90,7 +90,7 @@ include world context form x = bind x.value (λ v. bind (settle (to_text v)) (λ
   where
     enter_found : List ℕ → Means (Unit {0})
     enter_found text = option_map_or (enter_file world (is_once form))
-        (file_at world.program (normalised (from_folder x.form (directory_of world.program context.file) text))) nothing
+        (file_at context.program (normalised (from_folder x.form (directory_of context.program context.file) text))) nothing
 
 -- ---- examples
 

@@ -1,7 +1,7 @@
 -- What operators, assignments, casts, constants and variables do with what their operands mean (PHP manual, Expressions,
 -- Operators, Constants). Operands are evaluated strictly from left to right, this project's own.
-use Rattle.std.specs.Prelude.{ℕ, pos, neg_ℤ, Bool, true, false, List, [], ◌∷◌, ◌++◌, Option, None, Some, if◌then◌else◌, codes, bytes_eq}
-use Rattle.std.specs.Option.{option_map_or, unwrap_or}
+use Rattle.std.specs.Prelude.{ℕ, ℤ, pos, neg_ℤ, Result, Ok, Bool, true, false, List, [], ◌∷◌, ◌++◌, Option, None, Some, if◌then◌else◌, codes, bytes_eq}
+use Rattle.std.specs.Option.{option_map_or, unwrap_or, ok_or}
 use Rattle.hph_ast.specs.declared.operator.Binary.{Binary}
 use Rattle.hph_ast.specs.declared.operator.Binary.TheVariants as b
 use Rattle.hph_ast.specs.declared.operator.Prefix.{Prefix}
@@ -12,20 +12,21 @@ use Rattle.hph_ast.specs.declared.operator.Assignment.{Assignment}
 use Rattle.hph_ast.specs.declared.operator.Assignment.TheVariants as a
 use Rattle.hph_ast.specs.declared.expr.Update.{Update}
 use Rattle.hph_ast.specs.declared.expr.Update.TheVariants as update
+use Rattle.hph_php.specs.declared.fatal.Fatal.{Fatal}
 use Rattle.hph_php.specs.declared.fatal.Fatal.TheVariants.{UndefinedConstant}
 use Rattle.hph_php.specs.declared.operator.BinOp.{BinOp}
 use Rattle.hph_php.specs.declared.operator.BinOp.TheVariants as binary
 use Rattle.hph_php.specs.declared.operator.UnOp.{UnOp}
 use Rattle.hph_php.specs.declared.operator.UnOp.TheVariants as unary
 use Rattle.hph_php.specs.Values.{Value, Null, Boolean, Int, Str, Obj}
-use Rattle.hph_php.specs.Conversions.{to_bool, to_text, to_key}
+use Rattle.hph_php.specs.Conversions.{map_ok, to_bool, to_text, to_key}
 use Rattle.hph_php.specs.Operators.{binary_of, unary_of, incremented, decremented}
 use Rattle.hph_php.specs.Arrays.{Array, append, set}
-use Rattle.hph_php.specs.State.{State, Name, named, folded, place_variable, placed, bind_variable, variable_value}
-use Rattle.hph_php.specs.Answers.{Means, Exit, bind, first, give, look, change, by_state, settle, found_or, print, end_with}
+use Rattle.hph_php.specs.State.{State, Heap, Name, named, folded, share, by_name, on_located, variable_value, this_object}
+use Rattle.hph_php.specs.Answers.{Means, Exits, bind, first, give, look, change, by_heap, settle, print, end_with}
 use Rattle.hph_php.specs.World.{World, Context}
 use Rattle.hph_php.specs.Targets.{Reading, Form, plain_variable, valued, variable_base, try, assign, assign_with, assign_if_unset, update, value_or}
-use Rattle.hph_php.specs.Classes.{ClassChoice, this_object, instance_of}
+use Rattle.hph_php.specs.Classes.{ClassChoice, instance_of}
 use Rattle.hph_php.specs.Includes.{include}
 
 -- ---- constants
@@ -43,11 +44,13 @@ abbrev pub or_else : {A : Type 0} → Option A → Option A → Option A
 or_else (Some x) other = Some x
 or_else None other = other
 
-abbrev pub constant_value : Name → State → Option Value
-constant_value name st = or_else (named (folded name) words) (or_else (named name predefined) (named name st.core.constants))
+-- a constant that is there
+abbrev pub constant_in : Name → Heap → Result Value Fatal
+constant_in name heap =
+    ok_or (or_else (named (folded name) words) (or_else (named name predefined) (named name heap.constants))) UndefinedConstant
 
 abbrev pub constant_named : Name → Means Value
-constant_named name = by_state (λ st. found_or UndefinedConstant (constant_value name st))
+constant_named name = by_heap (constant_in name)
 
 -- ---- variables
 
@@ -66,11 +69,10 @@ variable name = if is_this name then valued (look this_value) else record {
 }
 
 -- `$x =& $y`: both have the location of $y, which is made if there is none
-abbrev pub share : Form → Form → Means Value
-share (plain_variable x) (plain_variable y) =
-    first (change (place_variable y)) (first (change (λ st. bind_variable x (placed y st) st))
-    (look (λ st. unwrap_or (variable_value x st) Null)))
-share _ _ = give Null
+abbrev pub share_forms : Form → Form → Means Value
+share_forms (plain_variable x) (plain_variable y) =
+    first (change (on_located (share by_name x y))) (look (λ st. unwrap_or (variable_value x st) Null))
+share_forms _ _ = give Null
 
 -- ---- operators
 
@@ -151,9 +153,13 @@ cast_of cast.Array = unary.ToArray
 abbrev pub echo : Means Value → Means (Unit {0})
 echo m = bind m (λ v. bind (settle (to_text v)) print)
 
+-- what `exit` prints, and the status
+abbrev pub exit_of : Value → Result (List ℕ × ℤ) Fatal
+exit_of (Int z) = Ok ([], z)
+exit_of v = map_ok (λ text. (text, pos 0)) (to_text v)
+
 abbrev pub exit_with : Value → Means Value
-exit_with (Int z) = end_with (Exit z)
-exit_with v = bind (settle (to_text v)) (λ text. first (print text) (end_with (Exit (pos 0))))
+exit_with v = bind (settle (exit_of v)) (λ e. first (print e.0) (end_with (Exits e.1)))
 
 abbrev pub prefix : World → Context → Prefix → Reading → Means Value
 prefix world context p.Plus x = apply unary.Plus x.value
@@ -206,8 +212,11 @@ moved_by within update.PostDecrement x = update within decremented (λ old new. 
 abbrev pub add_last : Value → Array Value → Means (Array Value)
 add_last v elements = settle (append elements v)
 
+abbrev pub with_key : Value → Value → Array Value → Result (Array Value) Fatal
+with_key key v elements = map_ok (λ k. set elements k v) (to_key key)
+
 abbrev pub add_keyed : Value → Value → Array Value → Means (Array Value)
-add_keyed key v elements = bind (settle (to_key key)) (λ k. give (set elements k v))
+add_keyed key v elements = settle (with_key key v elements)
 
 abbrev pub text_of : Means Value → List ℕ → Means (List ℕ)
 text_of m before = bind m (λ v. bind (settle (to_text v)) (λ text. give (before ++ text)))

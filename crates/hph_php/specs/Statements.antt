@@ -1,14 +1,15 @@
 -- What statements mean (PHP manual, Control Structures, Variable scope). A turn of a loop takes a unit after its test and before
 -- its body, this project's own.
-use Rattle.std.specs.Prelude.{ℕ, zero, suc, ◌-◌, Bool, true, false, List, [], ◌∷◌, map, Option, None, Some, if◌then◌else◌}
+use Rattle.std.specs.Prelude.{ℕ, zero, suc, ◌-◌, Bool, true, false, List, [], ◌∷◌, map, is_some, Option, None, Some, Result, Ok, Err, if◌then◌else◌}
 use Rattle.std.specs.Option.{option_map_or, unwrap_or}
 use Rattle.hph_array.specs.declared.key.Key.{Key}
+use Rattle.hph_php.specs.declared.fatal.Fatal.{Fatal}
 use Rattle.hph_php.specs.declared.fatal.Fatal.TheVariants.{ObjectUse}
 use Rattle.hph_php.specs.Values.{Value, Null, Arr, Obj, listed}
 use Rattle.hph_php.specs.Conversions.{to_bool, value_of_key}
 use Rattle.hph_php.specs.Comparison.{loosely_equal}
-use Rattle.hph_php.specs.State.{State, Name, Site, place_global, bind_variable, unbind_variable, set_variable, named, static_variable, with_static_variable, next_location, with_location, on_core, with_constant}
-use Rattle.hph_php.specs.Answers.{Means, More, bind, first, give, nothing, fail, change, by_state, settle, spend, in_order}
+use Rattle.hph_php.specs.State.{State, Name, place, location_in, by_name, on_globals, on_located, bind_static, static_variable, bind_variable, unbind_variable, set_variable, with_constant}
+use Rattle.hph_php.specs.Answers.{Means, More, bind, first, give, nothing, change, change_heap, by_state, settle, spend, in_order}
 use Rattle.hph_php.specs.Targets.{Reading, Form, plain_variable, along, unset_from}
 
 -- how a statement is left: to the next one; out of loops and switches, whose levels count from 0; to the next turn; with a value
@@ -108,11 +109,14 @@ each_pair key value body [] = give Next
 each_pair key value body (p ∷ ps) =
     spend (bind (first (change (set_element key value p)) body) (after_turn (each_pair key value body ps)))
 
--- no turns for what is no array
+-- what foreach goes through: nothing for what is no array
+abbrev pub turns_of : Value → Result (List (Key × Value)) Fatal
+turns_of (Arr pairs next_key) = Ok (listed pairs)
+turns_of (Obj object) = Err ObjectUse
+turns_of _ = Ok []
+
 abbrev pub foreach_in : Option Name → Name → Means Way → Value → Means Way
-foreach_in key value body (Arr pairs next_key) = each_pair key value body (listed pairs)
-foreach_in key value body (Obj object) = fail ObjectUse
-foreach_in key value body _ = give Next
+foreach_in key value body v = bind (settle (turns_of v)) (each_pair key value body)
 
 abbrev pub foreach : Means Value → Option Name → Name → Means Way → Means Way
 foreach subject key value body = bind subject (foreach_in key value body)
@@ -152,32 +156,26 @@ switch subject cases = bind (bind subject (λ v. pick v cases (default_bodies ca
 
 -- ---- variables
 
--- in a function the name has the global variable's location
+-- in a function the name has the global variable's location, which is made if there is none
 abbrev pub global_variable : Bool → Name → State → State
 global_variable false name st = st
-global_variable true name st = bind_placed (place_global name st)
+global_variable true name st = bound (on_globals (place by_name name) st)
   where
-    bind_placed : State → State
-    bind_placed placed_st = bind_variable name (unwrap_or (named name placed_st.globals) 0) placed_st
+    bound : State → State
+    bound placed_st = bind_variable name (location_in by_name name placed_st.globals) placed_st
 
--- a location for the place of the program, which the name has from then on
-abbrev pub new_static : Site → Name → State → State
-new_static site name st =
-    bind_variable name (next_location st.core)
-    (on_core (λ core. with_static_variable site (next_location core) (with_location None core)) st)
-
--- its initial value is evaluated at the first passage
-abbrev pub static_variable_with : Site → Name → Option (Means Value) → Means (Unit {0})
-static_variable_with site name value = by_state (λ st.
-    option_map_or (λ location. change (bind_variable name location)) (static_variable site st.core)
-    (first (change (new_static site name)) (option_map_or (λ m. bind m (λ v. change (set_variable name v))) value nothing)))
+-- the name has the location of the program's static variable of a number; its initial value is evaluated at the first passage
+abbrev pub static_variable_with : ℕ → Name → Option (Means Value) → Means (Unit {0})
+static_variable_with number name value = by_state (λ st. first (change (on_located (bind_static by_name name number)))
+    (if is_some (static_variable number st.core.places) then nothing
+    else option_map_or (λ m. bind m (λ v. change (set_variable name v))) value nothing))
 
 abbrev pub unset_by : Option ℕ → Form → Reading → Means (Unit {0})
 unset_by within (plain_variable name) x = change (unbind_variable name)
 unset_by within _ x = along x (unset_from within)
 
 abbrev pub define_constant : Name → Means Value → Means (Unit {0})
-define_constant name m = bind m (λ v. change (on_core (with_constant name v)))
+define_constant name m = bind m (λ v. change_heap (with_constant name v))
 
 abbrev pub return_with : Option (Means Value) → Means Way
 return_with None = give (Returns Null)

@@ -5,11 +5,12 @@ use Rattle.hph_php.specs.State.{Name}
 use Rattle.hph_php.specs.Answers.{Means}
 use Rattle.hph_php.specs.Declarations.{Codes}
 
--- what a method is called on: nothing, for a function; a late static class; or an object with a late static class
+-- What code is called on: nothing, for a function; a class, for a static method, as its late static class; or an object, whose
+-- class is the late static class.
 pub data Receiver : Type 0 where
   no_receiver : Receiver
   a_class : (static_class : ℕ) → Receiver
-  an_object : (object : ℕ) → (static_class : ℕ) → Receiver
+  an_object : (object : ℕ) → Receiver
 
 -- an argument by value, or by reference
 pub data Argument : Type 0 where
@@ -19,18 +20,15 @@ pub data Argument : Type 0 where
 -- What code does that goes by its number: a call of a function or method, a file that is entered and a class constant, each of
 -- which takes a unit; and the initial value of a static property, and those of an object, which take none.
 pub record World : Type 0 where
-  pub program : Codes
   pub call : ℕ → Receiver → List Argument → Means Value
   pub enter : ℕ → Means (Unit {0})
   pub constant : ℕ → Means Value
   pub initial : ℕ → Means Value
   pub initials : ℕ → Means (List (Name × Value))
 
--- The file and the class in which a part stands, whether it is in a function, and whether in a constant or an initial value of
--- the class. At the top level `made` are the offsets of the declarations that were made when the file was entered.
+-- the program of a part, the file and the class in which it stands, and whether it is in a function
 pub record Context : Type 0 where
+  pub program : Codes
   pub file : ℕ
   pub class : Option ℕ
   pub in_function : Bool
-  pub is_initial : Bool
-  pub made : List ℕ
