@@ -16,9 +16,7 @@ mod plain;
 mod scope;
 mod spaces;
 mod stack;
-#[cfg(test)]
-mod tests;
 mod validator;
 mod variables;
 
-pub use validator::{ValidFault, valid};
+pub use validator::{ValidFault, decide, valid};

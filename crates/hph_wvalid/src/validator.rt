@@ -51,7 +51,7 @@ fn is_valid_outside(alloc: Global, m: &Module, spaces: &Spaces) -> Result<bool, 
 }
 
 /// Whether the module is valid; if not, its first fault. Functions and the opcodes of each body are to be few enough for a place.
-pub(crate) fn decide(alloc: Global, m: &Module) -> Result<(), ValidFault>
+pub fn decide(alloc: Global, m: &Module) -> Result<(), ValidFault>
     requires few { length (functions m.now) < 2 ^ 32 }
     requires short { AllByRecursion (λ func. list_size func.body < 2 ^ 32) m.now.funcs }
     ensures valid { OnOk result (IsValid m.now) }
