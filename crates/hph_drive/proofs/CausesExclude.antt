@@ -12,7 +12,8 @@ use Rattle.hph_file.specs.Answers.{IsRead}
 use Rattle.hph_text.specs.Texts.{file_texts}
 use Rattle.hph_drive.specs.declared.status.Status.{Status}
 use Rattle.hph_drive.specs.declared.status.Status.TheVariants.{Built, Usage, Refused, Unlowered, ReadFault, WriteFault, NoMemory}
-use Rattle.hph_drive.specs.Answers.{SaysOfFile, Succeeds, ShowsFault, HasFault, ShowsUnlowered, IsSource, file_limit}
+use Rattle.hph_drive.specs.Answers.{SaysOfFile, Succeeds, ShowsFault, HasFault, ShowsUnlowered, IsSource}
+use Rattle.hph_compile.specs.Sources.{file_limit}
 
 -- what is known of files
 pub record OneTree : Type 0 where

@@ -1,6 +1,6 @@
 -- What each answer says, and what it leaves. This project's own.
 -- The cases of `SaysOfFile` exclude one another, so each answer comes exactly where its case holds.
-use Rattle.std.specs.Prelude.{◌≡◌, ◌<◌, ◌≤◌, ◌⊎◌, ◌^◌, ℕ, List, length, Option, Some, None, Ok, string_bytes}
+use Rattle.std.specs.Prelude.{◌≡◌, ◌<◌, ◌≤◌, ◌⊎◌, ℕ, List, length, Option, Some, None, Ok, string_bytes}
 use Rattle.hph_src.specs.Sink.{grown_by, GrowsByPrefix}
 use Rattle.hph_ast.specs.declared.program.FileTree.{FileTree}
 use Rattle.hph_ast.specs.declared.refusal.LimitName.TheVariants.{FileBytes}
@@ -11,13 +11,9 @@ use Rattle.hph_file.specs.Answers.{IsRead}
 use Rattle.hph_text.specs.Texts.{file_texts}
 use Rattle.hph_drive.specs.declared.status.Status.{Status}
 use Rattle.hph_drive.specs.declared.status.Status.TheVariants.{Built, Usage, Refused, Unlowered, ReadFault, WriteFault, NoMemory}
-use Rattle.hph_drive.specs.Headline.{CompilesTo}
+use Rattle.hph_compile.specs.Headline.{CompilesTo}
 use Rattle.hph_drive.specs.Lines.{line_of}
-use Rattle.hph_drive.specs.Sources.{IsUnlowered}
-
--- the most bytes that a source file may have
-abbrev pub file_limit : ℕ
-file_limit = 2 ^ 20
+use Rattle.hph_compile.specs.Sources.{file_limit, IsUnlowered}
 
 -- a source file that isn't too long
 abbrev pub IsSource : Option (List ℕ) → List ℕ → Type 0

@@ -2,5 +2,4 @@ pub mod Words
 pub mod Names
 pub mod Lines
 pub mod Sources
-pub mod Headline
 pub mod Answers

@@ -1,5 +1,5 @@
 -- The number and the line of each status: this project's own.
-use Rattle.std.specs.Prelude.{◌≡◌, ℕ, List, [], ◌∷◌, ◌++◌, codes, string_bytes, refl}
+use Rattle.std.specs.Prelude.{ℕ, List, [], ◌∷◌, ◌++◌, codes, string_bytes}
 use Rattle.std.specs.Fmt.{decimal}
 use Rattle.hph_ast.specs.declared.refusal.LimitName.{LimitName}
 use Rattle.hph_ast.specs.declared.refusal.LimitName.TheVariants.{FileBytes, AllBytes, Files, ModuleBytes}

@@ -1,14 +1,12 @@
-ghost use Rattle.std.specs.Prelude.{◌≡◌, ◌≤◌, IfOk, IfErr, IfSome, length};
+ghost use Rattle.std.specs.Prelude.{◌≡◌, IfSome};
 ghost use Rattle.hph_src.specs.Faults.{HasRisen};
 ghost use Rattle.hph_src.specs.Files.{file_at};
-ghost use Rattle.hph_drive.specs.Headline.{CompilesTo};
-ghost use Rattle.hph_drive.specs.Answers.{SaysOfFile, NamesFile, LeavesAlone, SaysOfPut, file_limit};
-ghost use Rattle.hph_drive.specs.Sources.{IsFaultOf};
+ghost use Rattle.hph_drive.specs.Answers.{SaysOfFile, NamesFile, LeavesAlone, SaysOfPut};
 
 use crate::Status;
-use crate::fault::SourceFault;
+use crate::fault::status_of;
 use hph_ast::{LimitName, Refusal};
-use hph_size::{texts_are_nodes, texts_are_short};
+use hph_compile::compiled;
 use hph_src::{PutAnswer, ReadAnswer, Sink, Tree};
 use std::alloc::Global;
 
@@ -31,7 +29,7 @@ pub fn build<T: Tree, O: Sink>(alloc: Global, path: &str, tree: &mut T, out: &mu
     match tree.read(path, FILE_LIMIT, &mut source) {
         ReadAnswer::Found => match compiled(alloc, &source) {
             Ok(bytes) => written(&bytes, out),
-            Err(fault) => fault.status(file),
+            Err(fault) => status_of(fault, file),
         },
         ReadAnswer::Absent => Status::Refused(Refusal::Missing { path: file }),
         ReadAnswer::TooLong => Status::Refused(Refusal::Limit {
@@ -41,21 +39,6 @@ pub fn build<T: Tree, O: Sink>(alloc: Global, path: &str, tree: &mut T, out: &mu
         ReadAnswer::Failed => Status::ReadFault,
         ReadAnswer::NoMemory => Status::NoMemory,
     }
-}
-
-/// The bytes of a file's module.
-fn compiled(alloc: Global, source: &[u8]) -> Result<Vec<u8>, SourceFault>
-    requires { length source.now ≤ file_limit }
-    ensures compiled { IfOk result (λ bytes. CompilesTo source.now bytes.items) }
-    ensures fault { IfErr result (IsFaultOf source.now) }
-{
-    texts_are_short();
-    texts_are_nodes();
-    let tree = hph_file::read(alloc, source)?;
-    let texts = hph_text::texts(alloc, &tree)?;
-    let module = hph_lowm::module(alloc, texts.as_slice())?;
-    let bytes = hph_wenc::write(alloc, &module)?;
-    Ok(bytes)
 }
 
 /// Writes a module whole.

@@ -12,9 +12,9 @@ use Rattle.hph_wasm.specs.declared.module.Module.{Module}
 use Rattle.hph_wasm.specs.Functions.{imported_functions}
 use Rattle.hph_wasm.specs.Rows.{size, row_size, else_size, list_size}
 use Rattle.hph_wasm.specs.Validity.{Context, under_label, results_of, IsInstr, IsRow, IsElse, IsSequence, IsBody, IsFunc, body_context}
-use Rattle.hph_wasm.specs.ModuleValidity.{IsValid}
-use Rattle.hph_wasm.specs.Faults.{RowBegins, InstrBegins, ElseBegins, SequenceBegins, BodyBegins, IsFirstFault, IsFirstInvalid, outside, in_body, HasOneFault, HasOneFirst}
-use Rattle.hph_wasm.proofs.Numbered.{all-at}
+use Rattle.hph_wasm.specs.ModuleValidity.{IsValidOutside, IsValid}
+use Rattle.hph_wasm.specs.Faults.{RowBegins, InstrBegins, ElseBegins, SequenceBegins, BodyBegins, IsFirstFault, IsFirstInvalid, outside_code, outside, in_body, HasOneFault, HasOneFirst}
+use Rattle.hph_wasm.proofs.Numbered.{all-at, below-there}
 
 -- A number above another is that and more.
 above : (n k : ℕ) → n ≤ k → k ≡ n + (k - n)
@@ -111,6 +111,66 @@ module _ (m : Module) where
       sequence_upto c rest mid to (suc k - size i) others (omega (arith, within, more)),
     ))
   ]
+
+  mutual
+    -- No more opcodes can be typed than there are.
+    row_within : {j : _} (c : Context) (row : Row_of-Instr j) (from : List ValType) (n : ℕ) → RowBegins m c row n from → n ≤ row_size row
+    row_within c end_of-Instr from n none = omega (arith, none)
+    row_within c (more_of-Instr i rest) from n (inl none) = omega (arith, none)
+    row_within c (more_of-Instr i rest) from n (inr (inl begins)) = let less = instr_within c i from n begins in omega (arith, less)
+    row_within c (more_of-Instr i rest) from n (inr (inr (k, is, mid, valid, begins))) =
+        let less = row_within c rest mid k begins in omega (arith, is, less)
+
+    -- The same of an instruction, of whose opcodes one is left.
+    instr_within : (c : Context) (i : Instr) (from : List ValType) (n : ℕ) → InstrBegins m c i n from → n < size i
+    instr_within c (Block' ty shape body) from n (k, is, begins) =
+        let less = row_within (under_label (results_of ty) c) body [] k begins in omega (arith, is, less)
+    instr_within c (Loop' ty shape body) from n (k, is, begins) =
+        let less = row_within (under_label [] c) body [] k begins in omega (arith, is, less)
+    instr_within c (If' ty shape body other) from n (ends, inl (k, is, begins)) =
+        let less = row_within (under_label (results_of ty) c) body [] k begins in omega (arith, is, less)
+    instr_within c (If' ty shape body other) from n (ends, inr (valid, begins)) =
+        let less = else_within (under_label (results_of ty) c) other (2 + row_size body) n begins in omega (arith, less)
+    instr_within c Unreachable from n begins = absurd begins
+    instr_within c Nop from n begins = absurd begins
+    instr_within c (Br x) from n begins = absurd begins
+    instr_within c (BrIf x) from n begins = absurd begins
+    instr_within c (BrTable ks x) from n begins = absurd begins
+    instr_within c Return from n begins = absurd begins
+    instr_within c (Call f) from n begins = absurd begins
+    instr_within c (CallIndirect number) from n begins = absurd begins
+    instr_within c Drop from n begins = absurd begins
+    instr_within c Select from n begins = absurd begins
+    instr_within c (LocalGet x) from n begins = absurd begins
+    instr_within c (LocalSet x) from n begins = absurd begins
+    instr_within c (LocalTee x) from n begins = absurd begins
+    instr_within c (GlobalGet x) from n begins = absurd begins
+    instr_within c (GlobalSet x) from n begins = absurd begins
+    instr_within c (Load ty arg) from n begins = absurd begins
+    instr_within c (LoadNarrow load arg) from n begins = absurd begins
+    instr_within c (instr.Store ty arg) from n begins = absurd begins
+    instr_within c (StoreNarrow store arg) from n begins = absurd begins
+    instr_within c (I32Const z) from n begins = absurd begins
+    instr_within c (I64Const z) from n begins = absurd begins
+    instr_within c (Eqz ty) from n begins = absurd begins
+    instr_within c (Compare ty o) from n begins = absurd begins
+    instr_within c (Unary ty o) from n begins = absurd begins
+    instr_within c (Binary ty o) from n begins = absurd begins
+    instr_within c Wrap from n begins = absurd begins
+    instr_within c (Extend sign) from n begins = absurd begins
+
+    -- The same of a second branch.
+    else_within : (c : Context) (other : Held-Instr-If-2) (before n : ℕ) → ElseBegins m c other before n → n < before + else_size other
+    else_within c None' before n begins = absurd begins
+    else_within c (Some' shape body) before n (k, is, begins) = let less = row_within c body [] k begins in omega (arith, is, less)
+
+  -- The same of a sequence.
+  sequence_within : (c : Context) (code : List Instr) (from : List ValType) (n : ℕ) → SequenceBegins m c code n from → n ≤ list_size code
+  sequence_within c [] from n none = omega (arith, none)
+  sequence_within c (i ∷ rest) from n (inl none) = omega (arith, none)
+  sequence_within c (i ∷ rest) from n (inr (inl begins)) = let less = instr_within c i from n begins in omega (arith, less)
+  sequence_within c (i ∷ rest) from n (inr (inr (k, is, mid, valid, begins))) =
+      let less = sequence_within c rest mid k begins in omega (arith, is, less)
 
   mutual
     -- Fewer opcodes can be typed of the instructions inside a block.
@@ -238,8 +298,25 @@ module _ (m : Module) where
     no_fault : (k : ℕ) → IsBody m ty func → IsFirstFault m ty func k → ⊥
     no_fault k valid (within, _, fault) = fault (body_upto (suc k) valid (omega (arith, within)))
 
+    -- No opcodes can always be typed.
+    none_begin : (c : Context) (code : List Instr) (from : List ValType) → SequenceBegins m c code 0 from
+    none_begin c [] from = refl
+    none_begin c (i ∷ rest) from = inl refl
+
+    -- Where there is no first fault, more and more opcodes can be typed.
+    all_begin : ((k : ℕ) → IsFirstFault m ty func k → ⊥) → (n : ℕ) → n ≤ suc (list_size func.body) → (BodyBegins m ty func n → ⊥) → ⊥
+    all_begin none zero within not = not (inl (none_begin (body_context ty func) func.body []))
+    all_begin none (suc k) within not = all_begin none k (omega (arith, within)) (λ begins. none k (omega (arith, within), begins, not))
+
+    -- So a body that isn't valid has one.
+    some_fault : (IsBody m ty func → ⊥) → ((k : ℕ) → IsFirstFault m ty func k → ⊥) → ⊥
+    some_fault invalid none = all_begin none (suc (list_size func.body)) (omega arith) (λ begins. elim begins [
+      | inl more ↦ (let within = sequence_within (body_context ty func) func.body [] (suc (list_size func.body)) more in omega (arith, within))
+      | inr (all, valid) ↦ invalid valid
+    ])
+
     pub has_one_fault : HasOneFault m ty func
-    has_one_fault = (one_fault, no_fault)
+    has_one_fault = (one_fault, no_fault, some_fault)
 
 -- What holds of each at the front holds of one there.
 front-at : {X : Type 0} (P : X → Type 0) (xs : List X) (n i : ℕ) (x : X) → AllByRecursion P (take n xs) → slice_get xs i ≡ Some x → i < n → P x
@@ -247,6 +324,13 @@ front-at P [] n i x all there less = let none : ⊥ = cc in absurd none
 front-at P (y ∷ xs) zero i x all there less = absurd (omega (arith, less))
 front-at P (y ∷ xs) (suc n) zero x all there less = let same : y ≡ x = cc in subst P same all.0
 front-at P (y ∷ xs) (suc n) (suc i) x all there less = front-at P xs n i x all.1 there (omega (arith, less))
+
+-- What can't fail at any element that it holds before can't fail of all.
+none-fail : {X : Type 0} (P : X → Type 0) (xs : List X) →
+    ((n : ℕ) (x : X) → slice_get xs n ≡ Some x → AllByRecursion P (take n xs) → (P x → ⊥) → ⊥) → (AllByRecursion P xs → ⊥) → ⊥
+none-fail P [] each not = not tt
+none-fail P (x ∷ xs) each not = each 0 x refl tt (λ first.
+    none-fail P xs (λ n y there before. each (suc n) y there (first, before)) (λ others. not (first, others)))
 
 module _ (m : Module) where
   -- A function that is valid has no fault.
@@ -288,5 +372,18 @@ module _ (m : Module) where
   none_first f k valid (in_body n i func ty outside_valid there known before fault) =
       no_fault_in func ty i known fault (all-at (IsFunc m) m.funcs n func valid.funcs there)
 
+  -- Where there is none, what stands outside code is valid, and so is each function.
+  valid_function : IsValidOutside m → ((f k : ℕ) → IsFirstInvalid m f k → ⊥) → (n : ℕ) (func : Func) → slice_get m.funcs n ≡ Some func →
+      AllByRecursion (IsFunc m) (take n m.funcs) → (IsFunc m func → ⊥) → ⊥
+  valid_function valid none n func there before not =
+      let (ty, known) = below-there m.types func.ty (all-at (λ func. func.ty < length m.types) m.funcs n func valid.func_types there) in
+      (has_one_fault m ty func).2 (λ body. not (ty, known, body))
+      (λ k fault. none (length (imported_functions m.imports) + n) k (in_body n k func ty valid there known before fault))
+
+  -- So a module that isn't valid has one.
+  some_first : (IsValid m → ⊥) → ((f k : ℕ) → IsFirstInvalid m f k → ⊥) → ⊥
+  some_first invalid none = none outside_code 0 (outside (λ valid.
+      none-fail (IsFunc m) m.funcs (valid_function valid none) (λ funcs. invalid (record { outside = valid; funcs = funcs }))))
+
   pub has_one_first : HasOneFirst m
-  has_one_first = (one_first, none_first)
+  has_one_first = (one_first, none_first, some_first)

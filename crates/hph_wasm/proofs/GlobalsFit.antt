@@ -20,7 +20,7 @@ use Rattle.hph_wasm.specs.ModuleValidity.{outer_context, IsConstant, IsGlobalDef
 use Rattle.hph_wasm.specs.Instantiation.{constant_value, initial_value, globals_at_start}
 use Rattle.hph_wasm.specs.Configuration.{Host}
 use Rattle.hph_wasm.specs.Run.{HasThing, HasImport, IsLinked}
-use Rattle.hph_wasm.proofs.Fitting.{types}
+use Rattle.hph_wasm.specs.Values.{types}
 
 -- The kinds of constant instructions.
 data ConstantKind (types : List GlobalType) : Instr → Type 0 where

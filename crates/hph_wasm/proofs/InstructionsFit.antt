@@ -26,7 +26,8 @@ use Rattle.hph_wasm.specs.Reduction.{with_memory, with_globals, selected, same_f
 use Rattle.hph_wasm.proofs.Choices.{if_some-cases, cond-cases, cond-true, if_zero-cases, if_some-there}
 use Rattle.hph_wasm.proofs.Rows.{row-sequence, else-sequence}
 use Rattle.hph_wasm.proofs.Typing.{types-value, value_at, within_values, types-set, popped-there, top-there, same_func_type-same}
-use Rattle.hph_wasm.proofs.Fitting.{types, context, LabelsFit, CodeFits, FramesFit, StoreFits, FitsBehind, Fits}
+use Rattle.hph_wasm.specs.Fitting.{context, LabelsFit, CodeFits, FramesFit, StoreFits, FitsBehind, Fits}
+use Rattle.hph_wasm.specs.Values.{types}
 use Rattle.hph_wasm.proofs.Leaving.{return_step_fits, branch_step_fits}
 
 -- A label in a table, or the one for greater numbers, takes what all of them take.

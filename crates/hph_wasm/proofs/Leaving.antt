@@ -12,7 +12,8 @@ use Rattle.hph_wasm.specs.Configuration.{Host, Label, Frame, Store, Setting, Con
 use Rattle.hph_wasm.specs.Reduction.{after_return, end_of_function, end_of_code, return_step, branch_step}
 use Rattle.hph_wasm.proofs.Choices.{cond-true}
 use Rattle.hph_wasm.proofs.Typing.{types-take, types-enough}
-use Rattle.hph_wasm.proofs.Fitting.{types, context, LabelsFit, CodeFits, FramesFit, StoreFits, Fits}
+use Rattle.hph_wasm.specs.Fitting.{context, LabelsFit, CodeFits, FramesFit, StoreFits, Fits}
+use Rattle.hph_wasm.specs.Values.{types}
 
 module _ (m : Module) {H E : Type 0} (host : Host H E) where
   -- The same, at this host.

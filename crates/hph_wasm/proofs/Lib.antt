@@ -28,7 +28,6 @@ pub mod Runs
 pub mod Php1Lemmas
 pub mod Places
 pub mod PlacedSteps
-pub mod Fitting
 pub mod Typing
 pub mod Numbered
 pub mod GlobalsFit
@@ -51,3 +50,6 @@ pub mod PlainResults
 pub mod RuleViews
 pub mod RuleOutcomes
 pub mod OneWay
+pub mod EmptyLabels
+pub mod Obstacles
+pub mod Printed

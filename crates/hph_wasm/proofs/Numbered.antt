@@ -47,7 +47,7 @@ all-replicate P zero x holds = tt
 all-replicate P (suc n) x holds = (holds, all-replicate P n x holds)
 
 -- Where a number is below a list's length, there is an element.
-below-there : {X : Type 0} (xs : List X) (i : ℕ) → i < length xs → (x : X) × (slice_get xs i ≡ Some x)
+pub below-there : {X : Type 0} (xs : List X) (i : ℕ) → i < length xs → (x : X) × (slice_get xs i ≡ Some x)
 below-there [] i below = absurd (omega (arith, below))
 below-there (x ∷ xs) zero below = (x, refl)
 below-there (x ∷ xs) (suc i) below = below-there xs i (omega (arith, below))

@@ -6,7 +6,7 @@ use Rattle.hph_wasm.specs.declared.types.ValType.TheVariants.{I32, I64}
 use Rattle.hph_wasm.specs.declared.module.Module.{Module}
 use Rattle.hph_wasm.specs.Run.{wasm, KeepsOutput, NeverTakesBack}
 use Rattle.hph_wasm.specs.Php1.{php1, is_write_type, write_effect, effect_of_row}
-use Rattle.hph_wasm.specs.Safety.{HasResults, RepliesByType}
+use Rattle.hph_wasm.specs.HostAnswers.{FitsResult, ResultsFit}
 use Rattle.hph_wasm.specs.Agrees.{IsRun}
 use Rattle.hph_wasm.proofs.Runs.{prefix_refl, wasm_is_run}
 use Rattle.hph_wasm.proofs.Choices.{cond-cases}
@@ -30,10 +30,10 @@ pub php1_is_run : (m : Module) → IsRun (wasm php1 [] m)
 php1_is_run m = wasm_is_run php1 m php1_keeps []
 
 -- A call of write gives no result.
-write_replies : (output arguments memory : List ℕ) → HasResults [] (write_effect output arguments memory)
+write_replies : (output arguments memory : List ℕ) → FitsResult [] (write_effect output arguments memory)
 write_replies output [] memory = tt
 write_replies output (place ∷ []) memory = tt
-write_replies output (place ∷ count ∷ []) memory = cond-cases (HasResults []) (nat_le (place + count) (length memory)) _ _ (λ _. refl) tt
+write_replies output (place ∷ count ∷ []) memory = cond-cases (FitsResult []) (nat_le (place + count) (length memory)) _ _ (λ _. tt) tt
 write_replies output (place ∷ count ∷ more ∷ arguments) memory = tt
 
 -- The type of write has no results.
@@ -55,8 +55,8 @@ row-type true true false row is = let none : ⊥ = cc in absurd none
 row-type true true true row is = (refl, cc)
 
 -- Each row gives what its type says.
-pub php1_replies : RepliesByType php1
+pub php1_replies : ResultsFit php1
 php1_replies module_name name ty row is output arguments memory =
     let (typed, first) = row-type (bytes_eq module_name (codes "php1")) (bytes_eq name (codes "write")) (is_write_type ty.params ty.results) row is in
-    subst (λ types. HasResults types (effect_of_row row output arguments memory)) (sym (write_type-results ty.params ty.results typed))
-    (subst (λ row. HasResults [] (effect_of_row row output arguments memory)) (sym first) (write_replies output arguments memory))
+    subst (λ types. FitsResult types (effect_of_row row output arguments memory)) (sym (write_type-results ty.params ty.results typed))
+    (subst (λ row. FitsResult [] (effect_of_row row output arguments memory)) (sym first) (write_replies output arguments memory))

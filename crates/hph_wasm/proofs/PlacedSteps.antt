@@ -1,5 +1,5 @@
 -- Each step keeps the place of what is left, and so a trap is at its own opcode.
-use Rattle.std.proofs.Common.{◌≡◌, ◌<◌, inl, ◌∙◌, ℕ, zero, suc, ◌+◌, ◌-◌, List, [], ◌∷◌, ◌++◌, Some, length, length-append, take, refl, sym, ap, subst, arith}
+use Rattle.std.proofs.Common.{◌≡◌, inl, ◌∙◌, ℕ, zero, suc, ◌+◌, ◌-◌, List, [], ◌∷◌, ◌++◌, Some, length, length-append, take, refl, sym, ap, subst, arith}
 use Rattle.std.specs.Prelude.{nat_eq, nat_le, slice_get}
 use Rattle.hph_wasm.specs.declared.instr.Instr.{Instr, Call}
 use Rattle.hph_wasm.specs.declared.types.FuncType.{FuncType}
@@ -8,15 +8,16 @@ use Rattle.hph_wasm.specs.declared.module.Module.{Module}
 use Rattle.hph_wasm.specs.Functions.{Function, Imported, Defined, functions, type_number}
 use Rattle.hph_wasm.specs.Configuration.{Reply, Goes, Stops, Host, Label, Frame, Store, Setting, Configuration, Running, Calling, Trapped, Stuck, Ended}
 use Rattle.hph_wasm.specs.Reduction.{Arguments, arguments, results, reply_of, with_host, after_call, after_return, end_of_function, end_of_code, return_step, branch_step, function_frame, after_reply, invocation_of, step, reduce}
-use Rattle.hph_wasm.specs.Opcodes.{Of, EndOfCode, opcodes, IsTrapOf, TrapsAreAtOpcodes}
+use Rattle.hph_wasm.specs.Opcodes.{EndOfCode, opcodes}
+use Rattle.hph_wasm.specs.Standing.{Stands, FramesStand, StandsIn, StandsBehind, IsTrapAt, IsPlaced, RunsStand, TrapsAreAtOpcodes}
 use Rattle.hph_wasm.specs.Outcome.{Trap}
 use Rattle.hph_wasm.specs.Place.{size_outside, body_size, trap_before}
 use Rattle.hph_wasm.specs.Rows.{list_size}
 use Rattle.hph_wasm.specs.Run.{start}
 use Rattle.hph_wasm.proofs.Choices.{if_some-cases, cond-cases}
-use Rattle.hph_wasm.proofs.OpcodeLists.{opcodes-length, instr_opcodes-first, size-positive}
+use Rattle.hph_wasm.proofs.OpcodeLists.{opcodes-length}
 use Rattle.hph_wasm.proofs.Steps.{IsNoBranch, Entry, instr_step-kept}
-use Rattle.hph_wasm.proofs.Places.{Stands, FramesStand, StandsIn, StandsBehind, IsPlaced, past_instr, onto_branch, into_label, past_label, back_to_label, own_opcodes, Outside-length, size_outside-positive, get-front, get-append}
+use Rattle.hph_wasm.proofs.Places.{past_instr, onto_branch, into_label, past_label, back_to_label, own_opcodes, Outside-length}
 
 module _ (m : Module) {H E : Type 0} (host : Host H E) where
   -- The same, at this host.
@@ -93,7 +94,8 @@ module _ (m : Module) {H E : Type 0} (host : Host H E) where
 
   -- As many opcodes are in front of an instruction as the place of its trap says.
   trap_place : (frames : List Frame) (i : Instr) (rest : List Instr) (labels : List Label) → IsNoBranch i →
-      StandsIn m frames (i ∷ rest) labels → IsTrapOf {E = E} m i (trap_before m (list_size (i ∷ rest) + size_outside labels) frames)
+      StandsIn m frames (i ∷ rest) labels →
+      IsTrapAt {E = E} m (i ∷ rest) labels (trap_before m (list_size (i ∷ rest) + size_outside labels) frames)
   trap_place [] i rest labels own stands = absurd stands
   trap_place (frame ∷ frames) i rest labels own (s, frames_stand) =
       let size_left = list_size (i ∷ rest) + size_outside labels in
@@ -110,14 +112,8 @@ module _ (m : Module) {H E : Type 0} (host : Host H E) where
         Outside-length (opcodes s.func.body ++ EndOfCode ∷ []) labels s.tail s.outside,
       ) in
       let number : list_size s.func.body + 1 - size_left ≡ length s.front = omega (arith, sizes) in
-      let (more, first) = instr_opcodes-first i in
-      let at_front : slice_get (opcodes s.func.body ++ EndOfCode ∷ []) (length s.front) ≡ Some (Of i) =
-      ap (λ l. slice_get l (length s.front)) (is ∙ ap (λ l. s.front ++ ((l ++ opcodes rest) ++ s.tail)) first) ∙
-      get-front s.front (Of i) ((more ++ opcodes rest) ++ s.tail) in
-      let before_end : length s.front < length (opcodes s.func.body) =
-      omega (arith, sizes, opcodes-length s.func.body, size-positive i, size_outside-positive labels) in
-      subst (IsTrapOf {E = E} m i) (sym (ap (λ o. Trap frame.function (body_size o - size_left)) s.there ∙ ap (Trap frame.function) number))
-      (s.func, s.there, sym (get-append (opcodes s.func.body) (EndOfCode ∷ []) (length s.front) before_end) ∙ at_front)
+      subst (IsTrapAt {E = E} m (i ∷ rest) labels) (sym (ap (λ o. Trap frame.function (body_size o - size_left)) s.there ∙ ap (Trap frame.function) number))
+      (s.func, s.there, s.front, s.tail, is, refl, s.outside)
 
   -- An instruction leads past its opcodes, into it, or out of labels; where it traps, that is at its opcode.
   running_placed : (i : Instr) (rest : List Instr) (values : List Value) (at : Setting H) → StandsIn m at.frames (i ∷ rest) at.labels →
@@ -187,6 +183,9 @@ module _ (m : Module) {H E : Type 0} (host : Host H E) where
   reduce_placed zero c placed = placed
   reduce_placed (suc n) c placed = reduce_placed n (step host m c) (step_placed c placed)
 
-  -- The law, from the start of the run.
+  -- From the start of the run.
+  pub runs_stand : RunsStand host m
+  runs_stand state main n = reduce_placed n (start state m main) tt
+
   pub traps_at_opcodes : TrapsAreAtOpcodes host m
-  traps_at_opcodes state main n code at reached = subst Placed reached (reduce_placed n (start state m main) tt)
+  traps_at_opcodes state main n code at reached = subst Placed reached (runs_stand state main n)

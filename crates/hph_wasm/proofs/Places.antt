@@ -7,22 +7,10 @@ use Rattle.hph_wasm.specs.declared.module.Module.{Module}
 use Rattle.hph_wasm.specs.Functions.{Defined, functions}
 use Rattle.hph_wasm.specs.Configuration.{Label, Frame, Configuration, Running, Calling, Trapped, Stuck, Ended}
 use Rattle.hph_wasm.specs.Place.{size_outside, trap_at}
-use Rattle.hph_wasm.specs.Opcodes.{Opcode, Of, EndOfCode, instr_opcodes, opcodes, IsTrapOf}
+use Rattle.hph_wasm.specs.Opcodes.{Opcode, Of, EndOfCode, instr_opcodes, opcodes}
+use Rattle.hph_wasm.specs.Standing.{IsShown, Outside, Stands}
 use Rattle.hph_wasm.proofs.OpcodeLists.{opcodes-length}
 use Rattle.hph_wasm.proofs.Steps.{IsNoBranch, IsConditional, Entry}
-
--- The opcodes that instructions show: their own, but a branch that was decided shows the opcode of what decided it.
-abbrev pub IsShown : List Instr → List Opcode → Type 0
-IsShown code shown = (shown ≡ opcodes code) ⊎
-    ((k : ℕ) × (rest : List Instr) × (first : Opcode) × (code ≡ Br k ∷ rest) × (shown ≡ first ∷ opcodes rest))
-
--- What is left of a body outside labels: behind each label some opcodes that are passed over, and the rest; and what a branch to
--- the label goes on with stands in the body before those.
-abbrev pub Outside : List Opcode → List Label → List Opcode → Type 0
-Outside whole [] tail = tail ≡ EndOfCode ∷ []
-Outside whole (label ∷ labels) tail = (gap : List Opcode) × (outer : List Opcode) × (length gap ≡ label.after) ×
-    (tail ≡ gap ++ (opcodes label.rest ++ outer)) ×
-    (front : List Opcode) × (whole ≡ front ++ (opcodes (label.continuation ++ label.rest) ++ outer)) × Outside whole labels outer
 
 -- As many are left as the labels say.
 pub Outside-length : (whole : List Opcode) (labels : List Label) (tail : List Opcode) → Outside whole labels tail → length tail ≡ size_outside labels
@@ -48,41 +36,6 @@ get-append (x ∷ xs) ys zero less = refl
 get-append (x ∷ xs) ys (suc k) less = get-append xs ys k (omega (arith, less))
 
 module _ (m : Module) where
-  -- Instructions inside labels are what is left of the function with a number.
-  pub record Stands (f : ℕ) (code : List Instr) (labels : List Label) : Type 0 where
-    pub func : Func
-    pub there : slice_get (functions m) f ≡ Some (Defined func)
-    pub front : List Opcode
-    pub shown : List Opcode
-    pub tail : List Opcode
-    pub is : opcodes func.body ++ EndOfCode ∷ [] ≡ front ++ (shown ++ tail)
-    pub shows : IsShown code shown
-    pub outside : Outside (opcodes func.body ++ EndOfCode ∷ []) labels tail
-
-  -- Each caller goes on with what is left of it.
-  abbrev pub FramesStand : List Frame → Type 0
-  FramesStand [] = Unit {0}
-  FramesStand (frame ∷ []) = Unit {0}
-  FramesStand (frame ∷ caller ∷ frames) = Stands caller.function frame.rest frame.labels × FramesStand (caller ∷ frames)
-
-  -- The function that runs is the innermost frame's.
-  abbrev pub StandsIn : List Frame → List Instr → List Label → Type 0
-  StandsIn [] code labels = ⊥
-  StandsIn (frame ∷ frames) code labels = Stands frame.function code labels × FramesStand (frame ∷ frames)
-
-  -- Behind a call; outside all frames nothing comes behind.
-  abbrev pub StandsBehind : List Frame → List Instr → List Label → Type 0
-  StandsBehind [] code labels = Unit {0}
-  StandsBehind (frame ∷ frames) code labels = Stands frame.function code labels × FramesStand (frame ∷ frames)
-
-  -- A configuration whose instructions are what is left of their functions; one that has trapped did so at its opcode.
-  abbrev pub IsPlaced : {H E : Type 0} → Configuration H E → Type 0
-  IsPlaced (Running code values at) = StandsIn at.frames code at.labels
-  IsPlaced (Calling f rest values at) = StandsBehind at.frames rest at.labels
-  IsPlaced {H} {E} (Trapped code at) = (i : Instr) × (rest : List Instr) × (code ≡ i ∷ rest) × IsTrapOf {E = E} m i (trap_at m code at)
-  IsPlaced (Stuck code at) = Unit {0}
-  IsPlaced (Ended end h) = Unit {0}
-
   -- The instruction that is next shows its own opcodes, unless it is a branch.
   pub own_opcodes : (i : Instr) (rest : List Instr) (shown : List Opcode) → IsNoBranch i → IsShown (i ∷ rest) shown → shown ≡ opcodes (i ∷ rest)
   own_opcodes i rest shown own (inl same) = same
@@ -90,7 +43,7 @@ module _ (m : Module) where
       let branch : i ≡ Br k = cc in absurd (subst IsNoBranch branch own)
 
   -- Behind an instruction what it shows is passed.
-  pub past_instr : (f : ℕ) (i : Instr) (rest : List Instr) (labels : List Label) → Stands f (i ∷ rest) labels → Stands f rest labels
+  pub past_instr : (f : ℕ) (i : Instr) (rest : List Instr) (labels : List Label) → Stands m f (i ∷ rest) labels → Stands m f rest labels
   past_instr f i rest labels s = elim s.shows [
     | inl same ↦ record {
       func = s.func;
@@ -117,8 +70,8 @@ module _ (m : Module) where
   ]
 
   -- A branch that is decided shows what decided it.
-  pub onto_branch : (f : ℕ) (i : Instr) (k : ℕ) (rest : List Instr) (labels : List Label) → IsConditional i → Stands f (i ∷ rest) labels →
-      Stands f (Br k ∷ rest) labels
+  pub onto_branch : (f : ℕ) (i : Instr) (k : ℕ) (rest : List Instr) (labels : List Label) → IsConditional i → Stands m f (i ∷ rest) labels →
+      Stands m f (Br k ∷ rest) labels
   onto_branch f i k rest labels one s = elim s.shows [
     | inl same ↦ record {
       func = s.func;
@@ -160,7 +113,7 @@ module _ (m : Module) where
 
   -- An instruction is entered under a label that passes over what is behind the instructions inside.
   pub into_label : (f : ℕ) (i : Instr) (label : Label) (inside : List Instr) (labels : List Label) → Entry i label.rest label inside →
-      Stands f (i ∷ label.rest) labels → Stands f inside (label ∷ labels)
+      Stands m f (i ∷ label.rest) labels → Stands m f inside (label ∷ labels)
   into_label f i label inside labels e s =
       let own : s.shown ≡ opcodes (i ∷ label.rest) = own_opcodes i label.rest s.shown e.own s.shows in
       let whole : opcodes s.func.body ++ EndOfCode ∷ [] ≡ s.front ++ (opcodes (i ∷ label.rest) ++ s.tail) =
@@ -178,7 +131,7 @@ module _ (m : Module) where
       }
 
   -- Behind a label what it passes over is passed.
-  pub past_label : (f : ℕ) (code : List Instr) (label : Label) (labels : List Label) → Stands f code (label ∷ labels) → Stands f label.rest labels
+  pub past_label : (f : ℕ) (code : List Instr) (label : Label) (labels : List Label) → Stands m f code (label ∷ labels) → Stands m f label.rest labels
   past_label f code label labels s =
       let (gap, outer, passed, left, front, again, outside) = s.outside in
       record {
@@ -193,8 +146,8 @@ module _ (m : Module) where
       }
 
   -- A branch to a label leads to what it goes on with.
-  pub back_to_label : (f : ℕ) (code : List Instr) (label : Label) (labels : List Label) → Stands f code (label ∷ labels) →
-      Stands f (label.continuation ++ label.rest) labels
+  pub back_to_label : (f : ℕ) (code : List Instr) (label : Label) (labels : List Label) → Stands m f code (label ∷ labels) →
+      Stands m f (label.continuation ++ label.rest) labels
   back_to_label f code label labels s =
       let (gap, outer, passed, left, front, again, outside) = s.outside in
       record {

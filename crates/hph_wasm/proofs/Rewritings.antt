@@ -1,11 +1,13 @@
 -- Each step between configurations that go on is one rewriting of the standard's, and each trap is by a rule.
-use Rattle.std.proofs.Common.{◌≡◌, ℕ, zero-add, List, [], ◌∷◌, ◌++◌, length, refl, sym, ap, subst, ◌∙◌, Some}
+use Rattle.std.proofs.Common.{◌≡◌, ℕ, List, [], ◌∷◌, ◌++◌, length, reverse, refl, sym, ap, subst, ◌∙◌, Some}
 use Rattle.std.specs.Prelude.{nat_eq, slice_get}
+use Rattle.std.proofs.lemmas.List.{reverse-reverse}
 use Rattle.hph_wasm.specs.declared.instr.Instr.{Instr, Call}
 use Rattle.hph_wasm.specs.declared.types.FuncType.{FuncType}
 use Rattle.hph_wasm.specs.declared.value.Value.{Value}
 use Rattle.hph_wasm.specs.declared.module.Import.{Import}
 use Rattle.hph_wasm.specs.declared.module.Module.{Module}
+use Rattle.hph_wasm.specs.Values.{types}
 use Rattle.hph_wasm.specs.Functions.{Function, Imported, Defined, functions, type_number}
 use Rattle.hph_wasm.specs.Configuration.{Reply, Goes, Stops, Host, Label, Frame, Store, Setting, Configuration, Running, Calling, Trapped, Stuck, Ended}
 use Rattle.hph_wasm.specs.Reduction.{Arguments, arguments, results, reply_of, with_host, after_call, after_return, end_of_function, end_of_code, after_reply, invocation_of, invocation}
@@ -13,7 +15,7 @@ use Rattle.hph_wasm.specs.Sequences.{Invoke, Then, join, single, plain, constant
 use Rattle.hph_wasm.specs.Rewriting.{Rule, State, in_setting, RewritesTo, StepsAreRewritings, IsTrapStep, TrapsAreByRule}
 use Rattle.hph_wasm.specs.Rewriting as rule
 use Rattle.hph_wasm.proofs.Choices.{if_some-cases, cond-cases}
-use Rattle.hph_wasm.proofs.SequenceLaws.{join-empty, join-join, arguments_onto-join, arguments_onto-length, constants-results}
+use Rattle.hph_wasm.proofs.SequenceLaws.{join-empty, join-join, arguments_onto-join, arguments_onto-types, constants-results}
 use Rattle.hph_wasm.proofs.Contexts.{GoesTo, rewrites_at, leaves}
 use Rattle.hph_wasm.proofs.BranchRewritings.{end_of_code_rewrites}
 use Rattle.hph_wasm.proofs.InstructionRewritings.{instr_led}
@@ -26,14 +28,14 @@ module _ {H E : Type 0} (host : Host H E) (m : Module) where
       GoesTo host m (in_setting (join (stack values) (Then (Invoke f) (plain rest))) at) c
   call_rewrites f ty values call rest at c taken goes =
       subst (λ code. GoesTo host m (in_setting code at) c)
-      (sym (arguments_onto-join [] ty.params values call (Then (Invoke f) (plain rest)) taken ∙
+      (sym (arguments_onto-join [] (reverse ty.params) values call (Then (Invoke f) (plain rest)) taken ∙
       ap (join (stack call.below)) (sym (join-join (constants call.passed) (single (Invoke f)) (plain rest)))))
       goes
 
-  -- A call passes a value for each parameter.
-  passed-length : (ty : FuncType) (values : List Value) (call : Arguments) → arguments ty.params values ≡ Some call →
-      length call.passed ≡ length ty.params
-  passed-length ty values call taken = arguments_onto-length [] ty.params values call taken ∙ zero-add (length ty.params)
+  -- A call passes a value for each parameter, of its type.
+  passed-types : (ty : FuncType) (values : List Value) (call : Arguments) → arguments ty.params values ≡ Some call →
+      types call.passed ≡ ty.params
+  passed-types ty values call taken = arguments_onto-types [] (reverse ty.params) values call taken ∙ reverse-reverse ty.params
 
   module _ (f : ℕ) (rest : List Instr) (at : Setting H) (stuck : Configuration H E) (never : (before : State H) → GoesTo host m before stuck) where
     -- The state before a call's rule.
@@ -50,7 +52,7 @@ module _ {H E : Type 0} (host : Host H E) (m : Module) where
     -- The call of an import is the rule of the host's functions.
     after_reply_rewrites : (import : Import) (number : ℕ) (ty : FuncType) (row : ℕ) (call : Arguments) (reply : Reply H E) →
         slice_get (functions m) f ≡ Some (Imported import number) → slice_get m.types number ≡ Some ty →
-        length call.passed ≡ length ty.params → host.row import.«module» import.name ty ≡ Some row →
+        types call.passed ≡ ty.params → host.row import.«module» import.name ty ≡ Some row →
         reply_of host row call.passed at.store ≡ reply →
         GoesTo host m (invoking call) (after_reply host m reply ty call.below rest at stuck)
     after_reply_rewrites import number ty row call (Stops h reason) is typed all found replies = tt
@@ -64,7 +66,7 @@ module _ {H E : Type 0} (host : Host H E) (m : Module) where
 
     -- An invocation is the rule of its kind of function.
     invocation_of_rewrites : (function : Function) (ty : FuncType) (call : Arguments) → slice_get (functions m) f ≡ Some function →
-        slice_get m.types (type_number function) ≡ Some ty → length call.passed ≡ length ty.params →
+        slice_get m.types (type_number function) ≡ Some ty → types call.passed ≡ ty.params →
         GoesTo host m (invoking call) (invocation_of host m f function ty call rest at stuck)
     invocation_of_rewrites (Imported import number) ty call is typed all =
         if_some-cases (GoesTo host m (invoking call)) (host.row import.«module» import.name ty) stuck _ (never (invoking call)) (λ row found.
@@ -80,7 +82,7 @@ module _ {H E : Type 0} (host : Host H E) (m : Module) where
         if_some-cases (GoesTo host m before) (slice_get (functions m) f) stuck _ (never before) (λ function is.
         if_some-cases (GoesTo host m before) (slice_get m.types (type_number function)) stuck _ (never before) (λ ty typed.
         if_some-cases (GoesTo host m before) (arguments ty.params values) stuck _ (never before) (λ call taken.
-        call_rewrites f ty values call rest at _ taken (invocation_of_rewrites function ty call is typed (passed-length ty values call taken)))))
+        call_rewrites f ty values call rest at _ taken (invocation_of_rewrites function ty call is typed (passed-types ty values call taken)))))
 
   -- Each step.
   pub step_rewrites : StepsAreRewritings host m

@@ -1,10 +1,11 @@
 -- At one front rules have one outcome, and what is inside a label or a frame that a rule leaves isn't rewritten.
 use Rattle.std.proofs.Common.{◌≡◌, ◌≤◌, inl, inr, ℕ, zero, suc, List, ◌++◌, length, reverse, refl, sym, ap, subst, ◌∙◌, arith, None}
-use Rattle.std.proofs.lemmas.List.{reverse-reverse, length-reverse}
+use Rattle.std.proofs.lemmas.List.{reverse-reverse, length-reverse, length-map}
 use Rattle.hph_wasm.specs.declared.instr.Instr.{Instr, Br, Return}
 use Rattle.hph_wasm.specs.declared.types.FuncType.{FuncType}
 use Rattle.hph_wasm.specs.declared.value.Value.{Value}
 use Rattle.hph_wasm.specs.declared.module.Module.{Module}
+use Rattle.hph_wasm.specs.Values.{type_of}
 use Rattle.hph_wasm.specs.Functions.{Function, Imported, Defined}
 use Rattle.hph_wasm.specs.Configuration.{Host, Store}
 use Rattle.hph_wasm.specs.Reduction.{with_host}
@@ -194,11 +195,12 @@ module _ {H E : Type 0} (host : Host H E) (m : Module) where
       (st ∙ ap (λ (c : State H). c.store) one ∙ sym st', lo ∙ ap (λ (c : State H). c.locals) one ∙ sym lo', is ∙ ap (λ (c : State H). join c.code rest) one ∙ sym is')
   acts_same (Constant v) s s1 s2 locals l1 l2 values rest b1 b2 a b = absurd a
   acts_same (Invoke f) s s1 s2 locals l1 l2 values rest b1 b2
-      (passed, below, split, function, ty, there, known, long, acts) (passed', below', split', function', ty', there', known', long', acts') =
+      (passed, below, split, function, ty, there, known, typed, acts) (passed', below', split', function', ty', there', known', typed', acts') =
       let functions_same : function ≡ function' = cc in
       let types_same : ty ≡ ty' = cc in
       let lengths : length (reverse passed) ≡ length (reverse passed') =
-      length-reverse passed ∙ long ∙ ap (λ (ty : FuncType). length ty.params) types_same ∙ sym long' ∙ sym (length-reverse passed') in
+      length-reverse passed ∙ sym (length-map passed type_of) ∙ ap length (typed ∙ ap (λ (ty : FuncType). ty.params) types_same ∙ sym typed') ∙
+      length-map passed' type_of ∙ sym (length-reverse passed') in
       let (tops, lower) = same-top (reverse passed) (reverse passed') below below' lengths (sym split ∙ split') in
       let arguments_same : passed ≡ passed' = sym (reverse-reverse passed) ∙ ap reverse tops ∙ reverse-reverse passed' in
       invoked_same function ty s s1 s2 locals l1 l2 passed below rest b1 b2 acts

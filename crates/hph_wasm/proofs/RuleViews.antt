@@ -7,7 +7,7 @@ use Rattle.hph_wasm.specs.declared.types.FuncType.{FuncType}
 use Rattle.hph_wasm.specs.declared.value.Value.{Value}
 use Rattle.hph_wasm.specs.declared.value.Value.TheVariants as value
 use Rattle.hph_wasm.specs.declared.module.Module.{Module}
-use Rattle.hph_wasm.specs.Values.{zero_values}
+use Rattle.hph_wasm.specs.Values.{types, zero_values}
 use Rattle.hph_wasm.specs.Functions.{Function, Imported, Defined, functions, type_number}
 use Rattle.hph_wasm.specs.Configuration.{Goes, Host, Store}
 use Rattle.hph_wasm.specs.Reduction.{results, reply_of, with_host}
@@ -39,7 +39,7 @@ module _ {H E : Type 0} (host : Host H E) (m : Module) where
   Acts s locals values (Constant v) rest s' locals' becomes = ⊥
   Acts s locals values (Invoke f) rest s' locals' becomes = (passed : List Value) × (below : List Value) × (values ≡ reverse passed ++ below) ×
       (function : Function) × (ty : FuncType) × (slice_get (functions m) f ≡ Some function) ×
-      (slice_get m.types (type_number function) ≡ Some ty) × (length passed ≡ length ty.params) ×
+      (slice_get m.types (type_number function) ≡ Some ty) × (types passed ≡ ty.params) ×
       Invoked function ty s locals passed below rest s' locals' becomes
   Acts s locals values (Labelled n continuation body) rest s' locals' becomes = (s' ≡ s) × (locals' ≡ locals) × (
       ((given : List Value) × (body ≡ stack given) × (becomes ≡ join (stack values) (join (stack given) rest))) ⊎

@@ -1,6 +1,6 @@
 -- No configuration of a valid module is stuck: each step keeps what fits, and what is stuck doesn't fit.
 use Rattle.std.proofs.Common.{◌≡◌, ◌∙◌, ℕ, zero, suc, List, [], ◌∷◌, ◌++◌, Some, map, reverse, refl, sym, ap, subst}
-use Rattle.std.specs.Prelude.{slice_get}
+use Rattle.std.specs.Prelude.{Option, None, IsSome, slice_get}
 use Rattle.std.proofs.lemmas.List.{map-append, length-reverse, reverse-reverse}
 use Rattle.hph_wasm.specs.declared.instr.Instr.{Instr, Call}
 use Rattle.hph_wasm.specs.declared.types.ValType.{ValType}
@@ -14,14 +14,26 @@ use Rattle.hph_wasm.specs.ModuleValidity.{IsValid}
 use Rattle.hph_wasm.specs.Configuration.{Reply, Goes, Stops, Host, Frame, Store, Setting, Configuration, Running, Calling, Trapped, Stuck, Ended}
 use Rattle.hph_wasm.specs.Reduction.{Arguments, arguments, results, reply_of, with_host, after_call, function_frame, after_reply, invocation_of, invocation, step, reduce}
 use Rattle.hph_wasm.specs.Run.{start, IsLinked}
-use Rattle.hph_wasm.specs.Safety.{HasResults, RepliesByType, IsStuck, IsNeverStuck}
+use Rattle.hph_wasm.specs.HostAnswers.{FitsResult, ResultsFit}
+use Rattle.hph_wasm.specs.Safety.{RunsFit, IsStuck, IsNeverStuck}
 use Rattle.hph_wasm.proofs.Choices.{if_some-there, some-there, and_then-there}
 use Rattle.hph_wasm.proofs.Typing.{types-zero, types-results, passes}
 use Rattle.hph_wasm.proofs.Numbered.{body_at, row_at, entry_at}
 use Rattle.hph_wasm.proofs.GlobalsFit.{globals_fit}
-use Rattle.hph_wasm.proofs.Fitting.{types, context, LabelsFit, CodeFits, FramesFit, StoreFits, FitsBehind, Fits}
+use Rattle.hph_wasm.specs.Fitting.{context, LabelsFit, CodeFits, FramesFit, StoreFits, FitsBehind, Fits}
+use Rattle.hph_wasm.specs.Values.{types}
 use Rattle.hph_wasm.proofs.Leaving.{end_of_code_fits}
 use Rattle.hph_wasm.proofs.InstructionsFit.{instr_step_fits}
+
+-- A result that fits is one of these types.
+fits-results : {H : Type 0} (E : Type 0) (tys : List ValType) (h : H) (result : Option ℕ) → FitsResult {E = E} tys (Goes h result) →
+    IsSome (results tys result)
+fits-results E [] h None fits = refl
+fits-results E [] h (Some n) fits = absurd fits
+fits-results E (ty ∷ []) h None fits = absurd fits
+fits-results E (ty ∷ []) h (Some n) fits = refl
+fits-results E (ty ∷ other ∷ tys) h None fits = absurd fits
+fits-results E (ty ∷ other ∷ tys) h (Some n) fits = absurd fits
 
 module _ (m : Module) {H E : Type 0} (host : Host H E) where
   -- Behind a call the caller goes on.
@@ -35,11 +47,11 @@ module _ (m : Module) {H E : Type 0} (host : Host H E) where
 
   -- An import gives the results that are needed behind it.
   after_reply_fits : (reply : Reply H E) (ty : FuncType) (below : List Value) (rest : List Instr) (at : Setting H)
-      (stuck : Configuration H E) → HasResults ty.results reply →
+      (stuck : Configuration H E) → FitsResult ty.results reply →
       FitsBehind m at.frames at rest (reverse ty.results ++ types below) → Fits m (after_reply host m reply ty below rest at stuck)
   after_reply_fits (Stops h reason) ty below rest at stuck typed fits = tt
   after_reply_fits (Goes h result) ty below rest at stuck typed fits =
-      let (values, given) = some-there (results ty.results result) typed in
+      let (values, given) = some-there (results ty.results result) (fits-results E ty.results h result typed) in
       let stack : types (values ++ below) ≡ reverse ty.results ++ types below =
       map-append type_of values below ∙ ap (λ ts. ts ++ types below) (types-results ty.results result values given) in
       if_some-there (Fits m) (results ty.results result) values stuck _ given
@@ -63,7 +75,7 @@ module _ (m : Module) {H E : Type 0} (host : Host H E) where
   abbrev FitsHere : Configuration H E → Type 0
   FitsHere c = Fits m c
 
-  module _ (valid : IsValid m) (linked : IsLinked host m) (by_type : RepliesByType host) where
+  module _ (valid : IsValid m) (linked : IsLinked host m) (by_type : ResultsFit host) where
     -- A function's body finds its locals, and an import is there.
     invocation_of_fits : (f : ℕ) (function : Function) (ty : FuncType) (call : Arguments) (rest : List Instr) (at : Setting H)
         (stuck : Configuration H E) → slice_get (functions m) f ≡ Some function →
@@ -96,7 +108,7 @@ module _ (m : Module) {H E : Type 0} (host : Host H E) where
         FitsHere (Calling f rest values at) → Fits m (invocation host m f rest values at stuck)
     invocation_fits f rest values at stuck (ty, known, below, typed, fits) =
         let (function, there, has_type) = and_then-there (slice_get (functions m) f) (λ function. slice_get m.types (type_number function)) ty known in
-        let p = passes [] ty.params values (reverse ty.params) below typed (length-reverse ty.params) in
+        let p = passes [] (reverse ty.params) values below typed in
         if_some-there (Fits m) (slice_get (functions m) f) function stuck _ there
         (if_some-there (Fits m) (slice_get m.types (type_number function)) ty stuck _ has_type
         (if_some-there (Fits m) (arguments ty.params values) p.call stuck _ p.taken
@@ -104,7 +116,7 @@ module _ (m : Module) {H E : Type 0} (host : Host H E) where
         (subst (λ below. FitsBehind m at.frames at rest (reverse ty.results ++ below)) (sym p.below_types) fits))))
 
     -- Each step keeps what fits.
-    step_fits : (c : Configuration H E) → Fits m c → Fits m (step host m c)
+    pub step_fits : (c : Configuration H E) → Fits m c → Fits m (step host m c)
     step_fits (Running [] values at) (result, (labels, gives, ends, labels_fit), frames_fit, store_fits) =
         end_of_code_fits m host values at.labels at result labels (subst (LabelsFit m (types at.locals) result at.labels labels) (sym ends) labels_fit)
         frames_fit store_fits
@@ -129,11 +141,15 @@ module _ (m : Module) {H E : Type 0} (host : Host H E) where
     not_stuck (Stuck code at) fits stuck = fits
     not_stuck (Ended end h) fits stuck = stuck
 
-    -- The law, from the start of the run.
-    pub never_stuck : (state : H) → IsNeverStuck host state m
-    never_stuck state f n main stuck =
+    -- From the start of the run.
+    pub runs_fit : (state : H) → RunsFit host state m
+    runs_fit state f n main =
         let (main_f, exported, has_type) = linked.main in
         let same : main_f ≡ f = cc in
         let typed : func_type m f ≡ Some (record { params = []; results = [] }) =
         subst (λ f. func_type m f ≡ Some (record { params = []; results = [] })) same has_type in
-        not_stuck (reduce host m n (start state m f)) (reduce_fits n (start state m f) (record { params = []; results = [] }, typed, [], refl, globals_fit m host valid.outside linked)) stuck
+        reduce_fits n (start state m f) (record { params = []; results = [] }, typed, [], refl, globals_fit m host valid.outside linked)
+
+    -- So it is never stuck.
+    pub never_stuck : (state : H) → IsNeverStuck host state m
+    never_stuck state f n main stuck = not_stuck (reduce host m n (start state m f)) (runs_fit state f n main) stuck

@@ -1,9 +1,12 @@
 -- Sequences of instructions, and what is taken from them.
 use Rattle.std.proofs.Common.{◌≡◌, ◌≤◌, ℕ, zero, suc, ◌+◌, List, [], ◌∷◌, ◌++◌, length, take, drop, refl, sym, ap, subst, ◌∙◌, arith, Option, Some, None}
+use mathlib.Core.List.{reverse_aux}
 use Rattle.hph_wasm.specs.declared.instr.Instr.{Instr}
 use Rattle.hph_wasm.specs.declared.types.ValType.{ValType}
+use Rattle.hph_wasm.specs.declared.types.ValType.TheVariants.{I32, I64}
 use Rattle.hph_wasm.specs.declared.value.Value.{Value}
-use Rattle.hph_wasm.specs.Values.{value_of}
+use Rattle.hph_wasm.specs.declared.value.Value.TheVariants as value
+use Rattle.hph_wasm.specs.Values.{value_of, types}
 use Rattle.hph_wasm.specs.Reduction.{Arguments, arguments_onto, results}
 use Rattle.hph_wasm.specs.Sequences.{Administrative, Plain, Constant, Sequence, Empty, Then, join, single, plain, constants, stack, on_stack}
 
@@ -57,20 +60,29 @@ pub arguments_onto-join : (passed : List Value) (params : List ValType) (values 
 arguments_onto-join passed [] values call rest taken =
     let same : record { passed = passed; below = values } ≡ call = cc in
     ap (λ (call : Arguments). join (stack call.below) (join (constants call.passed) rest)) same
-arguments_onto-join passed (ty ∷ params) [] call rest taken = let none : ⊥ = cc in absurd none
-arguments_onto-join passed (ty ∷ params) (v ∷ values) call rest taken =
-    join-join (stack values) (single (Constant v)) (join (constants passed) rest) ∙ arguments_onto-join (v ∷ passed) params values call rest taken
+arguments_onto-join passed (I32 ∷ params) [] call rest taken = let none : ⊥ = cc in absurd none
+arguments_onto-join passed (I64 ∷ params) [] call rest taken = let none : ⊥ = cc in absurd none
+arguments_onto-join passed (I32 ∷ params) (value.I64 n ∷ values) call rest taken = let none : ⊥ = cc in absurd none
+arguments_onto-join passed (I64 ∷ params) (value.I32 n ∷ values) call rest taken = let none : ⊥ = cc in absurd none
+arguments_onto-join passed (I32 ∷ params) (value.I32 n ∷ values) call rest taken =
+    join-join (stack values) (single (Constant (value.I32 n))) (join (constants passed) rest) ∙
+    arguments_onto-join (value.I32 n ∷ passed) params values call rest taken
+arguments_onto-join passed (I64 ∷ params) (value.I64 n ∷ values) call rest taken =
+    join-join (stack values) (single (Constant (value.I64 n))) (join (constants passed) rest) ∙
+    arguments_onto-join (value.I64 n ∷ passed) params values call rest taken
 
--- A call passes a value for each parameter.
-pub arguments_onto-length : (passed : List Value) (params : List ValType) (values : List Value) (call : Arguments) →
-    arguments_onto passed params values ≡ Some call → length call.passed ≡ length passed + length params
-arguments_onto-length passed [] values call taken =
+-- A call passes values of the types that it takes, the last one first.
+pub arguments_onto-types : (passed : List Value) (params : List ValType) (values : List Value) (call : Arguments) →
+    arguments_onto passed params values ≡ Some call → types call.passed ≡ reverse_aux params (types passed)
+arguments_onto-types passed [] values call taken =
     let same : record { passed = passed; below = values } ≡ call = cc in
-    let as_before : length passed ≡ length call.passed = ap (λ (call : Arguments). length call.passed) same in
-    omega arith
-arguments_onto-length passed (ty ∷ params) [] call taken = let none : ⊥ = cc in absurd none
-arguments_onto-length passed (ty ∷ params) (v ∷ values) call taken =
-    omega (arith, arguments_onto-length (v ∷ passed) params values call taken)
+    ap (λ (call : Arguments). types call.passed) (sym same)
+arguments_onto-types passed (I32 ∷ params) [] call taken = let none : ⊥ = cc in absurd none
+arguments_onto-types passed (I64 ∷ params) [] call taken = let none : ⊥ = cc in absurd none
+arguments_onto-types passed (I32 ∷ params) (value.I64 n ∷ values) call taken = let none : ⊥ = cc in absurd none
+arguments_onto-types passed (I64 ∷ params) (value.I32 n ∷ values) call taken = let none : ⊥ = cc in absurd none
+arguments_onto-types passed (I32 ∷ params) (value.I32 n ∷ values) call taken = arguments_onto-types (value.I32 n ∷ passed) params values call taken
+arguments_onto-types passed (I64 ∷ params) (value.I64 n ∷ values) call taken = arguments_onto-types (value.I64 n ∷ passed) params values call taken
 
 -- A host's function has at most one result, so their order doesn't matter.
 pub constants-results : (types : List ValType) (result : Option ℕ) (values : List Value) → results types result ≡ Some values →

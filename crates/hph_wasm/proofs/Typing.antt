@@ -10,7 +10,7 @@ use Rattle.hph_wasm.specs.declared.value.Value.TheVariants as value
 use Rattle.hph_wasm.specs.Choice.{popped, with_top}
 use Rattle.hph_wasm.specs.Values.{value_of, type_of, zero_values}
 use Rattle.hph_wasm.specs.Reduction.{Arguments, arguments_onto, results, same_types, same_func_type}
-use Rattle.hph_wasm.proofs.Fitting.{types}
+use Rattle.hph_wasm.specs.Values.{types}
 
 -- Zeros have the types of the locals.
 pub types-zero : (ts : List ValType) → types (zero_values ts) ≡ ts
@@ -34,26 +34,26 @@ types-results (ty ∷ other ∷ ts) None values given = let none : ⊥ = cc in a
 types-results (ty ∷ other ∷ ts) (Some n) values given = let none : ⊥ = cc in absurd none
 
 -- What passes for values of these types are those values, the first one first.
-pub record Passes (passed : List Value) (params : List ValType) (values : List Value) (tops below : List ValType) : Type 0 where
+pub record Passes (passed : List Value) (params : List ValType) (values : List Value) (below : List ValType) : Type 0 where
   pub call : Arguments
   pub taken : arguments_onto passed params values ≡ Some call
-  pub passed_types : types call.passed ≡ reverse_aux tops (types passed)
+  pub passed_types : types call.passed ≡ reverse_aux params (types passed)
   pub below_types : types call.below ≡ below
 
--- Where the stack begins with the types of the parameters, a call finds its arguments.
-pub passes : (passed : List Value) (params : List ValType) (values : List Value) (tops below : List ValType) → types values ≡ tops ++ below →
-    length tops ≡ length params → Passes passed params values tops below
-passes passed [] values [] below typed same =
+-- Where the stack begins with these types, a call finds its arguments.
+pub passes : (passed : List Value) (params : List ValType) (values : List Value) (below : List ValType) → types values ≡ params ++ below →
+    Passes passed params values below
+passes passed [] values below typed =
     record { call = record { passed = passed; below = values }; taken = refl; passed_types = refl; below_types = typed }
-passes passed [] values (t ∷ tops) below typed same = absurd (omega (arith, same))
-passes passed (ty ∷ params) values [] below typed same = absurd (omega (arith, same))
-passes passed (ty ∷ params) [] (t ∷ tops) below typed same = let none : ⊥ = cc in absurd none
-passes passed (ty ∷ params) (v ∷ values) (t ∷ tops) below typed same =
-    let first : type_of v ≡ t = cc in
-    let others : types values ≡ tops ++ below = cc in
-    let p = passes (v ∷ passed) params values tops below others (omega (arith, same)) in
-    let all_typed = p.passed_types ∙ ap (λ t. reverse_aux tops (t ∷ types passed)) first in
-    record { call = p.call; taken = p.taken; passed_types = all_typed; below_types = p.below_types }
+passes passed (ty ∷ params) [] below typed = let none : ⊥ = cc in absurd none
+passes passed (I32 ∷ params) (value.I32 n ∷ values) below typed =
+    let p = passes (value.I32 n ∷ passed) params values below cc in
+    record { call = p.call; taken = p.taken; passed_types = p.passed_types; below_types = p.below_types }
+passes passed (I32 ∷ params) (value.I64 n ∷ values) below typed = let none : ⊥ = cc in absurd none
+passes passed (I64 ∷ params) (value.I32 n ∷ values) below typed = let none : ⊥ = cc in absurd none
+passes passed (I64 ∷ params) (value.I64 n ∷ values) below typed =
+    let p = passes (value.I64 n ∷ passed) params values below cc in
+    record { call = p.call; taken = p.taken; passed_types = p.passed_types; below_types = p.below_types }
 
 -- The value with a number has the type with it.
 pub value_at : (values : List Value) (x : ℕ) (ty : ValType) → slice_get (types values) x ≡ Some ty →

@@ -1,5 +1,6 @@
--- What the rules say of a block, a loop or an `if` by the lists of their instructions, for those who build them from lists.
-use Rattle.std.specs.Prelude.{◌≡◌, ◌↔◌, ℕ, ◌+◌, List, [], ◌∷◌, Option}
+-- What the rules say of a block, a loop or an `if` by the lists of their instructions, for those who build them from lists, and of
+-- what takes no values.
+use Rattle.std.specs.Prelude.{◌≡◌, ◌↔◌, ℕ, ◌+◌, List, [], ◌∷◌, ◌++◌, Option}
 use Rattle.hph_wasm.specs.declared.instr.Instr.{Instr}
 use Rattle.hph_wasm.specs.declared.instr.Instr.TheViews as view
 use Rattle.hph_wasm.specs.declared.types.ValType.{ValType}
@@ -11,8 +12,8 @@ use Rattle.hph_wasm.specs.declared.module.Module.{Module}
 use Rattle.hph_wasm.specs.Choice.{if_some, if_zero}
 use Rattle.hph_wasm.specs.Rows.{size, list_size}
 use Rattle.hph_wasm.specs.Validity.{Context, under_label, results_of, Takes, IsInstr, IsSequence}
-use Rattle.hph_wasm.specs.Configuration.{Host, Label, Setting, Running}
-use Rattle.hph_wasm.specs.Reduction.{block_label, loop_label, block_entry, step}
+use Rattle.hph_wasm.specs.Configuration.{Host, Label, Frame, Store, Setting, Configuration, Running}
+use Rattle.hph_wasm.specs.Reduction.{block_label, loop_label, after_return, end_of_function, block_entry, return_step, branch_step, step}
 
 -- A block's own opcode and its `end` are two more than what is inside.
 abbrev pub BlocksAddTwo : Type 0
@@ -75,3 +76,20 @@ IfsAreEntered {H} host m = (ty : BlockType) (body : List Instr) (other : Option 
     step host m (Running (view.If ty body other ∷ rest) (value.I32 n ∷ values) at) ≡ if_zero n
     (block_entry host m (block_label ty values rest) (else_list other) at)
     (block_entry host m (branch_label ty (1 + else_list_size other) values rest) body at)
+
+-- A branch to a label that takes no value goes on with the label's continuation, whatever is on the stack.
+abbrev pub EmptyLabelsAreLeft : {H E : Type 0} → Host H E → Module → Type 0
+EmptyLabelsAreLeft {H} {E} host m = (label : Label) (labels : List Label) (values : List Value) (at : Setting H)
+    (stuck : Configuration H E) → label.arity ≡ 0 → branch_step host m 0 values (label ∷ labels) at stuck ≡
+    Running (label.continuation ++ label.rest) label.values (record at { labels = labels })
+
+-- A return from a function that gives no value leads to its caller, whatever is on the stack; so does a branch to its outermost label.
+abbrev pub EmptyFramesAreLeft : {H E : Type 0} → Host H E → Module → Type 0
+EmptyFramesAreLeft {H} {E} host m = (frame : Frame) (frames : List Frame) (values : List Value) (store : Store H)
+    (stuck : Configuration H E) → frame.arity ≡ 0 →
+    return_step host m values (frame ∷ frames) store stuck ≡ after_return host m frame frames [] store
+
+-- The end of such a function leads there too, where its stack is empty.
+abbrev pub EmptyFramesEnd : {H E : Type 0} → Host H E → Module → Type 0
+EmptyFramesEnd {H} {E} host m = (frame : Frame) (frames : List Frame) (store : Store H) (stuck : Configuration H E) →
+    frame.arity ≡ 0 → end_of_function host m [] (frame ∷ frames) store stuck ≡ after_return host m frame frames [] store

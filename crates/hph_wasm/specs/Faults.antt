@@ -61,12 +61,14 @@ pub data IsFirstInvalid (m : Module) : ℕ → ℕ → Type 0 where
       slice_get m.types func.ty ≡ Some ty → AllByRecursion (IsFunc m) (take n m.funcs) → IsFirstFault m ty func k →
       IsFirstInvalid m (length (imported_functions m.imports) + n) k
 
--- A body has at most one first fault, and a valid one has none.
+-- A body has at most one first fault, a valid one has none, and one that isn't valid can't have none.
 abbrev pub HasOneFault : Module → FuncType → Func → Type 0
 HasOneFault m ty func = ((j k : ℕ) → IsFirstFault m ty func j → IsFirstFault m ty func k → j ≡ k) ×
-    ((k : ℕ) → IsBody m ty func → IsFirstFault m ty func k → ⊥)
+    ((k : ℕ) → IsBody m ty func → IsFirstFault m ty func k → ⊥) ×
+    ((IsBody m ty func → ⊥) → ((k : ℕ) → IsFirstFault m ty func k → ⊥) → ⊥)
 
 -- The same of a module.
 abbrev pub HasOneFirst : Module → Type 0
 HasOneFirst m = ((f g j k : ℕ) → IsFirstInvalid m f j → IsFirstInvalid m g k → (f ≡ g) × (j ≡ k)) ×
-    ((f k : ℕ) → IsValid m → IsFirstInvalid m f k → ⊥)
+    ((f k : ℕ) → IsValid m → IsFirstInvalid m f k → ⊥) ×
+    ((IsValid m → ⊥) → ((f k : ℕ) → IsFirstInvalid m f k → ⊥) → ⊥)

@@ -1,6 +1,9 @@
 -- What a running host may answer to a call, by what the call means (Core Specification 1.0, 4.4.7.3). That it may find no memory, or
 -- fail to write, is this project's own.
-use Rattle.std.specs.Prelude.{◌≡◌, ◌<◌, ◌^◌, ℕ, List, [], ◌∷◌, ◌++◌, length, take, drop, Some, None}
+use Rattle.std.specs.Prelude.{◌≡◌, ◌<◌, ◌^◌, ℕ, List, [], ◌∷◌, ◌++◌, length, take, drop, Option, Some, None}
+use Rattle.hph_src.specs.declared.sink.PutAnswer.{PutAnswer}
+use Rattle.hph_src.specs.declared.sink.PutAnswer.TheVariants as put_answer
+use Rattle.hph_src.specs.Sink.{grown_by, Grows}
 use Rattle.hph_wasm.specs.declared.types.ValType.{ValType}
 use Rattle.hph_wasm.specs.declared.types.FuncType.{FuncType}
 use Rattle.hph_wasm.specs.declared.host.HostAnswer.{HostAnswer}
@@ -45,6 +48,17 @@ state_after (Stops h reason) = h
 abbrev pub GrewBy : {H E : Type 0} → Host H E → H → Reply H E → H → Type 0
 GrewBy host before reply after = (count : ℕ) × (host.output after ≡ host.output before ++
     take count (drop (length (host.output before)) (host.output (state_after reply))))
+
+-- A host has printed this to a sink that told this at first: where the sink tells its content, that is what it held, and behind it
+-- what the host has printed.
+abbrev pub HasPrinted : (first now : Option (List ℕ)) → List ℕ → Type 0
+HasPrinted first now printed = now ≡ grown_by first printed
+
+-- Each put to the sink keeps that, with the piece behind, or with a front of the piece where the put has failed.
+abbrev pub PutsArePrinted : Type 0
+PutsArePrinted = (first old new : Option (List ℕ)) (printed piece : List ℕ) (answer : PutAnswer) → HasPrinted first old printed →
+    Grows old new piece answer → (count : ℕ) × HasPrinted first new (printed ++ take count piece) ×
+    (answer ≡ put_answer.All → take count piece ≡ piece)
 
 -- An answer, with the states before and after it, where the call means this reply.
 abbrev pub Answers : {H E : Type 0} → Host H E → H → Reply H E → HostAnswer → H → Type 0

@@ -26,9 +26,11 @@ pub mod Place
 pub mod Blocks
 pub mod Run
 pub mod Opcodes
+pub mod Standing
 pub mod Sequences
 pub mod PlainRules
 pub mod Rewriting
+pub mod Fitting
 pub mod Safety
 pub mod HostAnswers
 pub mod Php1

@@ -182,3 +182,7 @@ parts_of m = record {
 -- these bytes spell the module
 abbrev pub SpellsModule : List ℕ → Module → Type 0
 SpellsModule bytes m = (Exactly header ⊳ SpellsSections (parts_of m)) bytes
+
+-- some spelling of the module has fewer than 2^32 bytes
+abbrev pub IsShort : Module → Type 0
+IsShort m = (bytes : List ℕ) × SpellsModule bytes m × (length bytes < 2 ^ 32)

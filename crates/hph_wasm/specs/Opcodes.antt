@@ -1,14 +1,6 @@
 -- A body as its opcodes, in the order of the binary format (Core Specification 1.0, 5.4), which the place of a trap counts.
-use Rattle.std.specs.Prelude.{◌≡◌, ℕ, List, [], ◌∷◌, ◌++◌, Some, slice_get}
+use Rattle.std.specs.Prelude.{List, [], ◌∷◌, ◌++◌}
 use Rattle.hph_wasm.specs.declared.instr.Instr.{Instr, Block', Loop', If', Row_of-Instr, end_of-Instr, more_of-Instr, Held-Instr-If-2, None', Some'}
-use Rattle.hph_wasm.specs.declared.module.Func.{Func}
-use Rattle.hph_wasm.specs.declared.module.Module.{Module}
-use Rattle.hph_wasm.specs.Functions.{Defined, functions}
-use Rattle.hph_wasm.specs.Outcome.{End, Trap}
-use Rattle.hph_wasm.specs.Configuration.{Host, Setting, Trapped}
-use Rattle.hph_wasm.specs.Reduction.{reduce}
-use Rattle.hph_wasm.specs.Run.{start}
-use Rattle.hph_wasm.specs.Place.{trap_at}
 
 -- The opcode of an instruction, an `else`, or an `end`.
 pub data Opcode : Type 0 where
@@ -39,15 +31,3 @@ abbrev mutual
 abbrev pub opcodes : List Instr → List Opcode
 opcodes [] = []
 opcodes (i ∷ rest) = instr_opcodes i ++ opcodes rest
-
--- A trap at the opcode of this instruction in the body of a function.
-abbrev pub IsTrapOf : {E : Type 0} → Module → Instr → End E → Type 0
-IsTrapOf m i (Trap f k) = (func : Func) × (slice_get (functions m) f ≡ Some (Defined func)) ×
-    (slice_get (opcodes func.body) k ≡ Some (Of i))
-IsTrapOf m i _ = ⊥
-
--- Wherever a run traps, it is at the opcode of the instruction that is next.
-abbrev pub TrapsAreAtOpcodes : {H E : Type 0} → Host H E → Module → Type 0
-TrapsAreAtOpcodes {H} {E} host m = (state : H) (main n : ℕ) (code : List Instr) (at : Setting H) →
-    reduce host m n (start state m main) ≡ Trapped code at →
-    (i : Instr) × (rest : List Instr) × (code ≡ i ∷ rest) × IsTrapOf {E = E} m i (trap_at m code at)

@@ -3,7 +3,7 @@
 -- `br` and `return` are one, whatever they leave; `br_if` is one where it doesn't branch and two where it does; `br_table` is two;
 -- a call is two, of which the second enters the function or is the whole call of an import; leaving a function by its end is one,
 -- and its outermost label goes with it.
-use Rattle.std.specs.Prelude.{ℕ, zero, suc, ◌+◌, List, [], ◌∷◌, ◌++◌, map, length, take, Bool, true, false, ◌&&◌, Option, Some, None, if◌then◌else◌, nat_eq, nat_le, nat_lt, slice_get, slice_set, slice_index_or}
+use Rattle.std.specs.Prelude.{ℕ, zero, suc, ◌+◌, List, [], ◌∷◌, ◌++◌, map, length, reverse, take, Bool, true, false, ◌&&◌, Option, Some, None, if◌then◌else◌, nat_eq, nat_le, nat_lt, slice_get, slice_set, slice_index_or}
 use Rattle.hph_wasm.specs.declared.instr.Instr.{Instr, Unreachable, Nop, Block', Loop', If', Br, BrIf, BrTable, Return, Call, CallIndirect, Drop, Select, LocalGet, LocalSet, LocalTee, GlobalGet, GlobalSet, Load, LoadNarrow, StoreNarrow, I32Const, I64Const, Eqz, Compare, Unary, Binary, Wrap, Extend, Held-Instr-If-2, items-the_row-Instr}
 use Rattle.hph_wasm.specs.declared.instr.Instr as instr
 use Rattle.hph_wasm.specs.declared.value.Value.{Value}
@@ -42,15 +42,14 @@ pub record Arguments : Type 0 where
   pub passed : List Value
   pub below : List Value
 
--- Takes a value for each parameter off the stack, onto those taken before.
+-- Takes a value of each of these types off the stack, onto those taken before.
 abbrev pub arguments_onto : List Value → List ValType → List Value → Option Arguments
 arguments_onto passed [] values = Some (record { passed = passed; below = values })
-arguments_onto passed (ty ∷ params) [] = None
-arguments_onto passed (ty ∷ params) (v ∷ values) = arguments_onto (v ∷ passed) params values
+arguments_onto passed (ty ∷ types) values = popped ty values None (λ n values. arguments_onto (value_of ty n ∷ passed) types values)
 
--- The arguments of a call with these parameters, if there are enough values.
+-- The arguments of a call with these parameters, if values of their types are on top, the last parameter's topmost.
 abbrev pub arguments : List ValType → List Value → Option Arguments
-arguments params values = arguments_onto [] params values
+arguments params values = arguments_onto [] (reverse params) values
 
 -- The result of a host's function as a value of its type, if the function's type has just that result.
 abbrev pub results : List ValType → Option ℕ → Option (List Value)

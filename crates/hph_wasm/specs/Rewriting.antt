@@ -11,7 +11,7 @@ use Rattle.hph_wasm.specs.declared.types.FuncType.{FuncType}
 use Rattle.hph_wasm.specs.declared.module.Import.{Import}
 use Rattle.hph_wasm.specs.declared.module.Func.{Func}
 use Rattle.hph_wasm.specs.declared.module.Module.{Module}
-use Rattle.hph_wasm.specs.Values.{zero_values}
+use Rattle.hph_wasm.specs.Values.{types, zero_values}
 use Rattle.hph_wasm.specs.Functions.{Imported, Defined, functions, func_type}
 use Rattle.hph_wasm.specs.Instantiation.{table_of}
 use Rattle.hph_wasm.specs.Configuration.{Goes, Host, Label, Frame, Store, Setting, Configuration, Running, Calling, Trapped, Stuck, Ended}
@@ -67,14 +67,14 @@ module _ {H E : Type 0} (host : Host H E) (m : Module) where
     -- 4.4.7.1
     invoke_function : (s : Store H) (locals : List Value) (f : ℕ) (func : Func) (ty : FuncType) (passed : List Value) →
         slice_get (functions m) f ≡ Some (Defined func) → slice_get m.types func.ty ≡ Some ty →
-        length passed ≡ length ty.params →
+        types passed ≡ ty.params →
         Rule s locals (join (constants passed) (single (Invoke f)))
         s locals (single (Framed (length ty.results) (passed ++ zero_values func.locals) (plain func.body)))
     -- 4.4.7.3
     invoke_import : (s : Store H) (locals : List Value) (f : ℕ) (import : Import) (number : ℕ) (ty : FuncType) (row : ℕ)
         (passed : List Value) (h : H) (result : Option ℕ) (values : List Value) →
         slice_get (functions m) f ≡ Some (Imported import number) → slice_get m.types number ≡ Some ty →
-        length passed ≡ length ty.params → host.row import.«module» import.name ty ≡ Some row →
+        types passed ≡ ty.params → host.row import.«module» import.name ty ≡ Some row →
         reply_of host row passed s ≡ Goes h result → results ty.results result ≡ Some values →
         Rule s locals (join (constants passed) (single (Invoke f))) (with_host h s) locals (constants values)
     -- 4.4.7.2

@@ -12,7 +12,7 @@ use Rattle.hph_wasm.specs.declared.module.Export.{Export}
 use Rattle.hph_wasm.specs.declared.module.Module.{Module}
 use Rattle.hph_wasm.specs.Choice.{if_some}
 use Rattle.hph_wasm.specs.Functions.{Function, Imported, Defined, functions, func_type}
-use Rattle.hph_wasm.specs.Instantiation.{globals_at_start, memory_at_start}
+use Rattle.hph_wasm.specs.Instantiation.{globals_at_start, memory_at_start, SegmentsFit, IsFirstMisfit}
 use Rattle.hph_wasm.specs.Outcome.{Trap, More, Outcome, IsOver, IsPrefix}
 use Rattle.hph_wasm.specs.Configuration.{Reply, Goes, Stops, Host, Configuration, Running, Calling, Trapped, Stuck, Ended}
 use Rattle.hph_wasm.specs.Reduction.{step, reduce}
@@ -120,3 +120,23 @@ KeepsOutput host output (Stops h reason) = IsPrefix output (host.output h)
 abbrev pub NeverTakesBack : {H E : Type 0} → Host H E → Type 0
 NeverTakesBack {H} host = (row : ℕ) (h : H) (arguments memory : List ℕ) →
     KeepsOutput host (host.output h) (host.effect row h arguments memory)
+
+-- What keeps a module from running.
+pub data Obstacle : Type 0 where
+  Unlinked : (import : ℕ) → Obstacle
+  Misfit : (segment : ℕ) → Obstacle
+
+-- The first that does: the host is asked before the segments are looked at.
+pub data IsFirstObstacle {H E : Type 0} (host : Host H E) (m : Module) : Obstacle → Type 0 where
+  unlinked : (k : ℕ) → IsFirstUnlinked host m k → IsFirstObstacle host m (Unlinked k)
+  misfit : (k : ℕ) → IsLinked host m → IsFirstMisfit m k → IsFirstObstacle host m (Misfit k)
+
+-- A module that runs on a host.
+pub record IsReady {H E : Type 0} (host : Host H E) (m : Module) : Type 0 where
+  pub linked : IsLinked host m
+  pub fit : SegmentsFit m
+
+-- There is one first obstacle at most, and none before a module that is ready.
+abbrev pub HasOneObstacle : {H E : Type 0} → Host H E → Module → Type 0
+HasOneObstacle host m = ((a b : Obstacle) → IsFirstObstacle host m a → IsFirstObstacle host m b → a ≡ b) ×
+    ((a : Obstacle) → IsReady host m → IsFirstObstacle host m a → ⊥)

@@ -20,6 +20,10 @@ abbrev pub type_of : Value → ValType
 type_of (value.I32 n) = I32
 type_of (value.I64 n) = I64
 
+-- The types of values.
+abbrev pub types : List Value → List ValType
+types values = map type_of values
+
 -- The number of its bits.
 abbrev pub number_of : Value → ℕ
 number_of (value.I32 n) = n

@@ -1,22 +1,22 @@
-ghost use Rattle.std.specs.Prelude.{◌≡◌, ◌<◌, ◌^◌, length};
+ghost use Rattle.std.specs.Prelude.{◌≡◌};
 ghost use Rattle.hph_wasm.specs.ModuleValidity.{IsValid};
-ghost use Rattle.hph_wasm.specs.Spelling.{spelling};
+ghost use Rattle.hph_wasm.specs.ModuleGrammar.{IsShort};
 
 use crate::module::Module;
 
-/// A module that is valid (Core Specification 1.0, 3.4.10) and whose spelling has fewer than 2^32 bytes.
+/// A module that is valid (Core Specification 1.0, 3.4.10) and of which some spelling has fewer than 2^32 bytes.
 #[derive(Debug, Drop)]
 pub struct Checked {
     module: Module,
     ghost valid: { ∥ IsValid «module» ∥₁ },
-    ghost short: { length (spelling «module») < 2 ^ 32 },
+    ghost short: { ∥ IsShort «module» ∥₁ },
 }
 
 impl Checked {
     /// The module, which has to be valid and short.
     pub fn new(checked: Module) -> Checked
         requires valid { IsValid checked }
-        requires short { length (spelling checked) < 2 ^ 32 }
+        requires short { IsShort checked }
         ensures { result.«module» ≡ checked }
     {
         Checked { module: checked }
@@ -26,7 +26,7 @@ impl Checked {
     pub fn module(&self) -> &Module
         ensures same { result.now ≡ self.now.«module» }
         ensures valid { ∥ IsValid result.now ∥₁ }
-        ensures short { length (spelling result.now) < 2 ^ 32 }
+        ensures short { ∥ IsShort result.now ∥₁ }
     {
         &self.module
     }

@@ -6,37 +6,36 @@ ghost use Rattle.hph_wasm.specs.declared.module.Module.{Module};
 ghost use Rattle.hph_wasm.specs.Outcome.{Outcome};
 ghost use Rattle.hph_wasm.specs.Configuration.{Host, Configuration};
 ghost use Rattle.hph_wasm.specs.Reduction.{reduce};
-ghost use Rattle.hph_wasm.specs.Blocks.{BlocksAddTwo, BlocksAreSequences, BlocksAreEntered, LoopsAddTwo, LoopsAreSequences, LoopsAreEntered, IfsAddTwo, IfsAreSequences, IfsAreEntered};
-ghost use Rattle.hph_wasm.specs.Run.{wasm, invoked, IsEntering, IsLinked, NeverTakesBack};
-ghost use Rattle.hph_wasm.specs.Opcodes.{TrapsAreAtOpcodes};
-ghost use Rattle.hph_wasm.specs.Safety.{RepliesByType, IsNeverStuck};
+ghost use Rattle.hph_wasm.specs.Blocks.{BlocksAddTwo, BlocksAreSequences, BlocksAreEntered, LoopsAddTwo, LoopsAreSequences, LoopsAreEntered, IfsAddTwo, IfsAreSequences, IfsAreEntered, EmptyLabelsAreLeft, EmptyFramesAreLeft, EmptyFramesEnd};
+ghost use Rattle.hph_wasm.specs.Run.{wasm, invoked, IsEntering, IsLinked, HasOneObstacle, NeverTakesBack};
+ghost use Rattle.hph_wasm.specs.Standing.{RunsStand, TrapsAreAtOpcodes};
+ghost use Rattle.hph_wasm.specs.Safety.{RunsFit, IsNeverStuck};
 ghost use Rattle.hph_wasm.specs.ModuleValidity.{IsValid};
 ghost use Rattle.hph_wasm.specs.Faults.{HasOneFault, HasOneFirst};
 ghost use Rattle.hph_wasm.specs.Agrees.{IsRun, Follows, Agrees};
 ghost use Rattle.hph_wasm.specs.Rewriting.{StepsAreRewritings, TrapsAreByRule, RewritesOneWay};
+ghost use Rattle.hph_wasm.specs.HostAnswers.{ResultsFit, PutsArePrinted};
 ghost use Rattle.hph_wasm.specs.Php1.{php1, PhpStop};
 
-/// What a host is made of, for laws about any host.
-pub trait AnyHost {
-    /// What its states are.
-    ghost State: { Type 0 };
-
-    /// Why it ends runs.
-    ghost Stop: { Type 0 };
-}
+use crate::host::AnyHost;
 
 /// The host php1 of specs/Php1.antt.
 #[derive(Clone, Copy, Debug)]
 pub struct Php1;
 
 impl AnyHost for Php1 {
-    ghost use Rattle.std.specs.Prelude.{List, ℕ};
-    ghost use Rattle.hph_wasm.specs.Rewriting.{StepsAreRewritings, TrapsAreByRule, RewritesOneWay};
-    ghost use Rattle.hph_wasm.specs.Php1.{PhpStop};
+    ghost use Rattle.std.specs.Prelude.{List, ℕ, []};
+    ghost use Rattle.hph_wasm.specs.Php1.{php1, PhpStop};
 
     ghost State = { List ℕ };
 
     ghost Stop = { PhpStop };
+
+    ghost meaning = { php1 };
+
+    ghost state = { λ h. [] };
+
+    ghost faults = { λ h. 0 };
 }
 
 /// A block's opcodes and its validity, by the list of the instructions inside.
@@ -72,7 +71,15 @@ pub fn ifs_are_entered<H: AnyHost>()
     ensures { (host : Host H.State H.Stop) (m : Module) → IfsAreEntered host m }
 {}
 
-/// A body has at most one first fault, and none where it is valid; so has a module.
+/// A branch or a return that takes no values needs none, and leaves those that are there; a function that gives none ends with an
+/// empty stack.
+pub fn empty_labels_are_left<H: AnyHost>()
+    ensures labels { (host : Host H.State H.Stop) (m : Module) → EmptyLabelsAreLeft host m }
+    ensures frames { (host : Host H.State H.Stop) (m : Module) → EmptyFramesAreLeft host m }
+    ensures frames_end { (host : Host H.State H.Stop) (m : Module) → EmptyFramesEnd host m }
+{}
+
+/// A body has at most one first fault, none where it is valid, and one where it is not; so has a module.
 pub fn first_faults()
     ensures body { (m : Module) (ty : FuncType) (func : Func) → HasOneFault m ty func }
     ensures whole { (m : Module) → HasOneFirst m }
@@ -114,15 +121,39 @@ pub fn one_rule_applies<H: AnyHost>()
     ensures { (host : Host H.State H.Stop) (m : Module) → RewritesOneWay host m }
 {}
 
-/// Where a run has trapped, the place that is seen is the function that runs and the number of the instruction's opcode in its body.
+/// Wherever a run is, the instructions that are left of each of its functions are the end of that function's body, and a branch to
+/// a label leads to what stands in the body before those.
+pub fn runs_stand<H: AnyHost>()
+    ensures { (host : Host H.State H.Stop) (m : Module) → RunsStand host m }
+{}
+
+/// Where a run has trapped, the place that is seen is the function that runs and how many opcodes of its body stand before the
+/// instruction's; that and what is left make up the body.
 pub fn traps_are_at_opcodes<H: AnyHost>()
     ensures { (host : Host H.State H.Stop) (m : Module) → TrapsAreAtOpcodes host m }
 {}
 
-/// In a run of a valid module there is always a rule to apply, on a host that replies by type and has what it imports.
+/// One obstacle at most is the first that keeps a module from running, and none does where it is linked and its segments fit.
+pub fn one_obstacle_is_first<H: AnyHost>()
+    ensures { (host : Host H.State H.Stop) (m : Module) → HasOneObstacle host m }
+{}
+
+/// A host over a sink can keep what it has printed, also where the sink doesn't tell its content.
+pub fn puts_are_printed()
+    ensures { PutsArePrinted }
+{}
+
+/// In a run of a valid module each configuration has values of the types that its instructions, labels and callers need, on a host
+/// whose results fit and that has what is imported.
+pub fn runs_fit<H: AnyHost>()
+    ensures { (host : Host H.State H.Stop) (state : H.State) (m : Module) →
+        IsValid m → IsLinked host m → ResultsFit host → RunsFit host state m }
+{}
+
+/// In a run of a valid module there is always a rule to apply, on a host whose results fit and that has what it imports.
 pub fn never_stuck<H: AnyHost>()
     ensures { (host : Host H.State H.Stop) (state : H.State) (m : Module) →
-        IsValid m → IsLinked host m → RepliesByType host → IsNeverStuck host state m }
+        IsValid m → IsLinked host m → ResultsFit host → IsNeverStuck host state m }
 {}
 
 /// On the host php1 a run that has ended stays so, and output only grows.

@@ -10,15 +10,15 @@ use std::marker::Model;
 
 /// Locals of one type, with how many locals there are up to the last of them.
 #[derive(Clone, Copy, Debug)]
-struct Run {
-    ty: ValType,
-    end: u32,
+pub struct RunOfLocals {
+    pub ty: ValType,
+    pub end: u32,
 }
 
 /// The locals of a function, in runs of one type, so that they take memory by their runs. Contracts see the list of their types.
 #[derive(Debug, Drop)]
 pub struct Locals {
-    runs: Items<Run>,
+    runs: Items<RunOfLocals>,
 }
 
 impl Model for Locals {
@@ -73,6 +73,14 @@ impl Locals {
         type_at(self.runs.as_slice(), index)
     }
 
+    /// The runs, to be gone over one by one.
+    pub fn as_runs(&self) -> &[RunOfLocals]
+        ensures made { expanded result.now ≡ self.now }
+        ensures rising { IsRising 0 result.now }
+    {
+        self.runs.as_slice()
+    }
+
     /// How many locals of which type stand one behind the other.
     pub fn runs(&self, alloc: Global) -> Result<Vec<(u32, ValType)>, AllocError>
         ensures { IfOk result (λ runs. locals_of runs.items ≡ self.now) }
@@ -82,7 +90,7 @@ impl Locals {
 }
 
 /// The last run.
-fn last(runs: &[Run]) -> Option<&Run>
+fn last(runs: &[RunOfLocals]) -> Option<&RunOfLocals>
     ensures { option_copied result ≡ slice_get runs.now (length runs.now - 1) }
 {
     runs.last()
@@ -90,7 +98,7 @@ fn last(runs: &[Run]) -> Option<&Run>
 
 /// How many locals there are.
 #[tactic(auto, using(crate::proofs::LocalLaws::last_end, crate::proofs::LocalLaws::no_end))]
-fn end_of(runs: &[Run]) -> u32
+fn end_of(runs: &[RunOfLocals]) -> u32
     ensures { result ≡ end_of 0 runs.now }
 {
     match last(runs) {
@@ -101,7 +109,7 @@ fn end_of(runs: &[Run]) -> u32
 
 /// Whether the last local is of the type.
 #[tactic(auto, using(crate::proofs::LocalLaws::ends_in))]
-fn ends_in(runs: &[Run], ty: ValType) -> bool
+fn ends_in(runs: &[RunOfLocals], ty: ValType) -> bool
     ensures { IsTrue result → EndsIn ty runs.now }
 {
     match last(runs) {
@@ -112,7 +120,7 @@ fn ends_in(runs: &[Run], ty: ValType) -> bool
 
 /// Adds some locals of a type, to the last run if that is of the type.
 #[tactic(auto, using(crate::proofs::LocalLaws::added, crate::proofs::LocalLaws::added_rises, crate::proofs::LocalLaws::lengthened, crate::proofs::LocalLaws::lengthened_rises))]
-fn push(runs: &mut Items<Run>, count: u32, ty: ValType) -> Result<(), AllocError>
+fn push(runs: &mut Items<RunOfLocals>, count: u32, ty: ValType) -> Result<(), AllocError>
     requires some { 0 < count }
     requires few { end_of 0 runs.old + count < 2 ^ 32 }
     requires rising { IsRising 0 runs.old }
@@ -121,7 +129,7 @@ fn push(runs: &mut Items<Run>, count: u32, ty: ValType) -> Result<(), AllocError
     ensures kept { OnErr result (runs.new ≡ runs.old) }
 {
     let end = end_of(runs.as_slice()) + count;
-    let run = Run { ty, end };
+    let run = RunOfLocals { ty, end };
     if ends_in(runs.as_slice(), ty) {
         runs.set(runs.len() - 1, run);
         Ok(())
@@ -131,7 +139,7 @@ fn push(runs: &mut Items<Run>, count: u32, ty: ValType) -> Result<(), AllocError
 }
 
 /// The type of a local, in time of the logarithm of the number of runs.
-fn type_at(runs: &[Run], index: u32) -> Option<ValType>
+fn type_at(runs: &[RunOfLocals], index: u32) -> Option<ValType>
     requires { IsRising 0 runs.now }
     ensures { result ≡ slice_get (expanded runs.now) index }
 {
@@ -143,7 +151,7 @@ fn type_at(runs: &[Run], index: u32) -> Option<ValType>
 }
 
 /// Each run with the number of its locals in place of its end.
-fn counted(alloc: Global, runs: &[Run]) -> Result<Vec<(u32, ValType)>, AllocError>
+fn counted(alloc: Global, runs: &[RunOfLocals]) -> Result<Vec<(u32, ValType)>, AllocError>
     requires { IsRising 0 runs.now }
     ensures { IfOk result (λ counts. counts.items ≡ counted 0 runs.now) }
 {

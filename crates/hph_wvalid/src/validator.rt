@@ -3,7 +3,7 @@ ghost use Rattle.std.specs.Prelude.{◌≡◌, ℕ, ◌<◌, ◌^◌, length, �
 ghost use Rattle.std.specs.List.{AllByRecursion};
 ghost use Rattle.hph_wasm.specs.Functions.{functions};
 ghost use Rattle.hph_wasm.specs.Rows.{list_size};
-ghost use Rattle.hph_wasm.specs.Spelling.{spelling};
+ghost use Rattle.hph_wasm.specs.ModuleGrammar.{IsShort};
 ghost use Rattle.hph_wasm.specs.ModuleValidity.{IsValidOutside, IsValid};
 ghost use Rattle.hph_wasm.specs.Faults.{IsFirstInvalid};
 ghost use Rattle.hph_wvalid.specs.Spaces.{spaces_of};
@@ -68,10 +68,10 @@ pub fn decide(alloc: Global, m: &Module) -> Result<(), ValidFault>
     }
 }
 
-/// The module, if it is valid (3.4.10); else the place of its first fault. The module's spelling is to have fewer than 2^32 bytes.
-#[tactic(auto, using(crate::proofs::Spellings::functions_few, crate::proofs::Spellings::bodies_short))]
+/// The module, if it is valid (3.4.10); else the place of its first fault. Some spelling of the module, as one that it
+/// was read from, is to have fewer than 2^32 bytes.
 pub fn valid(alloc: Global, m: Module) -> Result<Checked, ValidFault>
-    requires short { length (spelling m) < 2 ^ 32 }
+    requires short { IsShort m }
     ensures same { IfOk result (λ checked. checked.«module» ≡ m) }
     ensures valid { OnOk result (IsValid m) }
     ensures invalid { IfErr result (IsFaultIn m) }

@@ -1,9 +1,8 @@
-mod lines;
-
-use crate::{Status, hphpc};
+//! Files that are built or refused, with what is written.
+use crate::lines::LINES;
 use hph_ast::{Construct, Refusal};
+use hph_drive::{Status, hphpc};
 use hph_src::{MemSink, MemTree, NoGate, ScriptSink, ScriptTree, Sink, Tree};
-use lines::LINES;
 use std::alloc::{AllocError, Global};
 use std::collections::BTreeMap;
 use std::test::Fail;

@@ -2,7 +2,7 @@ use Rattle.std.proofs.Common.{◌≡◌, ◌≤◌, length, subst}
 use Rattle.hph_lowm.specs.Compiles.{Compiles}
 use Rattle.hph_lowm.specs.Layout.{module_of}
 use Rattle.hph_size.specs.Nodes.{tree_nodes}
-use Rattle.hph_drive.proofs.build.compiled.Goals as goal
+use Rattle.hph_compile.proofs.module.compiled.Goals as goal
 
 pub returns-clause-compiled : goal.returns-clause-compiled
 returns-clause-compiled c =

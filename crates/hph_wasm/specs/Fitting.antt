@@ -1,18 +1,14 @@
 -- What holds of every configuration in a run of a valid module: its values have the types that its instructions need.
-use Rattle.std.proofs.Common.{◌≡◌, List, [], ◌∷◌, ◌++◌, Some, map, length, reverse}
+use Rattle.std.specs.Prelude.{◌≡◌, List, [], ◌∷◌, ◌++◌, Some, map, length, reverse}
 use Rattle.hph_wasm.specs.declared.instr.Instr.{Instr}
 use Rattle.hph_wasm.specs.declared.types.ValType.{ValType}
 use Rattle.hph_wasm.specs.declared.types.FuncType.{FuncType}
 use Rattle.hph_wasm.specs.declared.value.Value.{Value}
 use Rattle.hph_wasm.specs.declared.module.Module.{Module}
-use Rattle.hph_wasm.specs.Values.{type_of}
+use Rattle.hph_wasm.specs.Values.{types}
 use Rattle.hph_wasm.specs.Functions.{func_type, globals}
 use Rattle.hph_wasm.specs.Validity.{Context, IsSequence}
 use Rattle.hph_wasm.specs.Configuration.{Label, Frame, Store, Setting, Configuration, Running, Calling, Trapped, Stuck, Ended}
-
--- The types of values.
-abbrev pub types : List Value → List ValType
-types values = map type_of values
 
 -- What stands around instructions, by its parts.
 abbrev pub context : List ValType → List (List ValType) → List ValType → Context
