@@ -157,7 +157,7 @@ impl<F: Fn(Global, &mut Cursor<'_>, usize, Form) -> Result<Boxed<Expr>, ParseFau
     #[tactic(auto, unfolding(hph_fexpr::specs::Climb::one_level))]
     pub fn one_level(&self, cursor: &mut Cursor<'_>, least: u8) -> Result<Boxed<Expr>, ParseFault>
         requires { Nests self.now.below.parts.depth (F.pre self.now.below.parts.nested) (F.post self.now.below.parts.nested) }
-        ensures { Reads (spec.one_level (parse self.now.below.parts.depth) least cursor.old) result cursor.new }
+        ensures { Reads (spec.one_level (parse self.now.below.parts.depth) self.now.below.parts.depth least cursor.old) result cursor.new }
     {
         let found = self.term(cursor)?;
         self.climb(cursor, least, found)

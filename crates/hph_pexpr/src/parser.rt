@@ -19,7 +19,7 @@ use std::alloc::Global;
 impl<F: Fn(Global, &mut Cursor<'_>, usize, Form) -> Result<Boxed<Expr>, ParseFault>> Operators<F> {
     fn one_form(&self, cursor: &mut Cursor<'_>, form: Form) -> Result<Boxed<Expr>, ParseFault>
         requires { Nests self.now.below.parts.depth (F.pre self.now.below.parts.nested) (F.post self.now.below.parts.nested) }
-        ensures { Reads (spec.one_form (parse self.now.below.parts.depth) form cursor.old) result cursor.new }
+        ensures { Reads (spec.one_form self.now.below.parts.depth (parse self.now.below.parts.depth) form cursor.old) result cursor.new }
     {
         match form {
             Form::Level(least) => self.one_level(cursor, least),

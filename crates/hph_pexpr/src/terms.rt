@@ -22,7 +22,7 @@ impl<F: Fn(Global, &mut Cursor<'_>, usize, Form) -> Result<Boxed<Expr>, ParseFau
     #[tactic(auto, unfolding(hph_fexpr::specs::Terms::prefixed))]
     fn prefixed(&self, cursor: &mut Cursor<'_>, operator: Prefix) -> Result<Boxed<Expr>, ParseFault>
         requires { Nests self.now.below.parts.depth (F.pre self.now.below.parts.nested) (F.post self.now.below.parts.nested) }
-        ensures { Reads (spec.prefixed (parse self.now.below.parts.depth) operator cursor.old) result cursor.new }
+        ensures { Reads (spec.prefixed self.now.below.parts.depth (parse self.now.below.parts.depth) operator cursor.old) result cursor.new }
     {
         let first = cursor.take()?;
         let operand = self.below.parts.level(cursor, prefix_level(operator) + 1)?;
@@ -33,7 +33,7 @@ impl<F: Fn(Global, &mut Cursor<'_>, usize, Form) -> Result<Boxed<Expr>, ParseFau
     #[tactic(auto, unfolding(hph_fexpr::specs::Terms::pre_updated))]
     fn pre_updated(&self, cursor: &mut Cursor<'_>, form: Update) -> Result<Boxed<Expr>, ParseFault>
         requires { Nests self.now.below.parts.depth (F.pre self.now.below.parts.nested) (F.post self.now.below.parts.nested) }
-        ensures { Reads (spec.pre_updated (parse self.now.below.parts.depth) form cursor.old) result cursor.new }
+        ensures { Reads (spec.pre_updated self.now.below.parts.depth (parse self.now.below.parts.depth) form cursor.old) result cursor.new }
     {
         let first = cursor.take()?;
         let path = self.below.postfix(cursor)?;
@@ -52,7 +52,7 @@ impl<F: Fn(Global, &mut Cursor<'_>, usize, Form) -> Result<Boxed<Expr>, ParseFau
         found: Elements,
     ) -> Result<Boxed<Expr>, ParseFault>
         requires { Nests self.now.below.parts.depth (F.pre self.now.below.parts.nested) (F.post self.now.below.parts.nested) }
-        ensures { Reads (spec.destructured (parse self.now.below.parts.depth) opening.now found cursor.old) result cursor.new }
+        ensures { Reads (spec.destructured self.now.below.parts.depth (parse self.now.below.parts.depth) opening.now found cursor.old) result cursor.new }
     {
         cursor.take()?;
         let value = self.below.parts.level(cursor, ASSIGN_LEVEL + 1)?;
@@ -67,7 +67,7 @@ impl<F: Fn(Global, &mut Cursor<'_>, usize, Form) -> Result<Boxed<Expr>, ParseFau
         found: Elements,
     ) -> Result<Boxed<Expr>, ParseFault>
         requires { Nests self.now.below.parts.depth (F.pre self.now.below.parts.nested) (F.post self.now.below.parts.nested) }
-        ensures { Reads (spec.from_array (parse self.now.below.parts.depth) opening.now found cursor.old) result cursor.new }
+        ensures { Reads (spec.from_array self.now.below.parts.depth (parse self.now.below.parts.depth) opening.now found cursor.old) result cursor.new }
     {
         let array = array_of(
             self.below.parts.alloc,
@@ -84,7 +84,7 @@ impl<F: Fn(Global, &mut Cursor<'_>, usize, Form) -> Result<Boxed<Expr>, ParseFau
     #[tactic(auto, unfolding(hph_fexpr::specs::Terms::bracketed))]
     fn bracketed(&self, cursor: &mut Cursor<'_>) -> Result<Boxed<Expr>, ParseFault>
         requires { Nests self.now.below.parts.depth (F.pre self.now.below.parts.nested) (F.post self.now.below.parts.nested) }
-        ensures { Reads (spec.bracketed (parse self.now.below.parts.depth) cursor.old) result cursor.new }
+        ensures { Reads (spec.bracketed self.now.below.parts.depth (parse self.now.below.parts.depth) cursor.old) result cursor.new }
     {
         let opening = cursor.take()?;
         let found = self.below.parts.elements(cursor, Mark::CloseBracket)?;
@@ -97,7 +97,7 @@ impl<F: Fn(Global, &mut Cursor<'_>, usize, Form) -> Result<Boxed<Expr>, ParseFau
 
     fn operand(&self, cursor: &mut Cursor<'_>) -> Result<Boxed<Expr>, ParseFault>
         requires { Nests self.now.below.parts.depth (F.pre self.now.below.parts.nested) (F.post self.now.below.parts.nested) }
-        ensures { Reads (spec.operand (parse self.now.below.parts.depth) cursor.old) result cursor.new }
+        ensures { Reads (spec.operand self.now.below.parts.depth (parse self.now.below.parts.depth) cursor.old) result cursor.new }
     {
         if cursor.sees(Mark::OpenBracket) {
             return self.bracketed(cursor);
@@ -110,7 +110,7 @@ impl<F: Fn(Global, &mut Cursor<'_>, usize, Form) -> Result<Boxed<Expr>, ParseFau
     #[tactic(auto, unfolding(hph_fexpr::specs::Terms::term))]
     pub fn term(&self, cursor: &mut Cursor<'_>) -> Result<Boxed<Expr>, ParseFault>
         requires { Nests self.now.below.parts.depth (F.pre self.now.below.parts.nested) (F.post self.now.below.parts.nested) }
-        ensures { Reads (spec.term (parse self.now.below.parts.depth) cursor.old) result cursor.new }
+        ensures { Reads (spec.term self.now.below.parts.depth (parse self.now.below.parts.depth) cursor.old) result cursor.new }
     {
         if let Some(operator) = cursor.prefix() {
             return self.prefixed(cursor, operator);

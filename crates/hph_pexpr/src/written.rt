@@ -39,7 +39,7 @@ impl<F: Fn(Global, &mut Cursor<'_>, usize, Form) -> Result<Boxed<Expr>, ParseFau
         form: Update,
     ) -> Result<Boxed<Expr>, ParseFault>
         requires { Nests self.now.below.parts.depth (F.pre self.now.below.parts.nested) (F.post self.now.below.parts.nested) }
-        ensures { Reads (spec.post_updated (parse self.now.below.parts.depth) path form cursor.old) result cursor.new }
+        ensures { Reads (spec.post_updated self.now.below.parts.depth (parse self.now.below.parts.depth) path form cursor.old) result cursor.new }
     {
         let last = cursor.take()?;
         Ok(post_update_of(self.below.parts.alloc, path, form, on(last))?)
@@ -65,7 +65,7 @@ impl<F: Fn(Global, &mut Cursor<'_>, usize, Form) -> Result<Boxed<Expr>, ParseFau
     #[tactic(auto, unfolding(hph_fexpr::specs::Terms::bound))]
     fn bound(&self, cursor: &mut Cursor<'_>, target: Boxed<Expr>) -> Result<Boxed<Expr>, ParseFault>
         requires { Nests self.now.below.parts.depth (F.pre self.now.below.parts.nested) (F.post self.now.below.parts.nested) }
-        ensures { Reads (spec.bound (parse self.now.below.parts.depth) target cursor.old) result cursor.new }
+        ensures { Reads (spec.bound self.now.below.parts.depth (parse self.now.below.parts.depth) target cursor.old) result cursor.new }
     {
         let ampersand = cursor.take()?;
         let source = self.below.postfix(cursor)?;
@@ -80,7 +80,7 @@ impl<F: Fn(Global, &mut Cursor<'_>, usize, Form) -> Result<Boxed<Expr>, ParseFau
         operator: Assignment,
     ) -> Result<Boxed<Expr>, ParseFault>
         requires { Nests self.now.below.parts.depth (F.pre self.now.below.parts.nested) (F.post self.now.below.parts.nested) }
-        ensures { Reads (spec.valued_by (parse self.now.below.parts.depth) target operator cursor.old) result cursor.new }
+        ensures { Reads (spec.valued_by self.now.below.parts.depth (parse self.now.below.parts.depth) target operator cursor.old) result cursor.new }
     {
         let value = self.below.parts.level(cursor, ASSIGN_LEVEL + 1)?;
         Ok(assign_of(self.below.parts.alloc, operator, target, value)?)
@@ -95,7 +95,7 @@ impl<F: Fn(Global, &mut Cursor<'_>, usize, Form) -> Result<Boxed<Expr>, ParseFau
         operator: Assignment,
     ) -> Result<Boxed<Expr>, ParseFault>
         requires { Nests self.now.below.parts.depth (F.pre self.now.below.parts.nested) (F.post self.now.below.parts.nested) }
-        ensures { Reads (spec.assigned (parse self.now.below.parts.depth) target operator cursor.old) result cursor.new }
+        ensures { Reads (spec.assigned self.now.below.parts.depth (parse self.now.below.parts.depth) target operator cursor.old) result cursor.new }
     {
         cursor.take()?;
         if is_set(operator) && cursor.sees_ampersand() {
@@ -113,7 +113,7 @@ impl<F: Fn(Global, &mut Cursor<'_>, usize, Form) -> Result<Boxed<Expr>, ParseFau
         form: Update,
     ) -> Result<Boxed<Expr>, ParseFault>
         requires { Nests self.now.below.parts.depth (F.pre self.now.below.parts.nested) (F.post self.now.below.parts.nested) }
-        ensures { Reads (if is_written path then spec.post_updated (parse self.now.below.parts.depth) path form cursor.old else None) result cursor.new }
+        ensures { Reads (if is_written path then spec.post_updated self.now.below.parts.depth (parse self.now.below.parts.depth) path form cursor.old else None) result cursor.new }
     {
         if !is_written(path.get()) {
             return Err(cursor.refuse());
@@ -129,7 +129,7 @@ impl<F: Fn(Global, &mut Cursor<'_>, usize, Form) -> Result<Boxed<Expr>, ParseFau
         operator: Assignment,
     ) -> Result<Boxed<Expr>, ParseFault>
         requires { Nests self.now.below.parts.depth (F.pre self.now.below.parts.nested) (F.post self.now.below.parts.nested) }
-        ensures { Reads (if is_written path then spec.assigned (parse self.now.below.parts.depth) path operator cursor.old else None) result cursor.new }
+        ensures { Reads (if is_written path then spec.assigned self.now.below.parts.depth (parse self.now.below.parts.depth) path operator cursor.old else None) result cursor.new }
     {
         if !is_written(path.get()) {
             return Err(cursor.refuse());
@@ -145,7 +145,7 @@ impl<F: Fn(Global, &mut Cursor<'_>, usize, Form) -> Result<Boxed<Expr>, ParseFau
         path: Boxed<Expr>,
     ) -> Result<Boxed<Expr>, ParseFault>
         requires { Nests self.now.below.parts.depth (F.pre self.now.below.parts.nested) (F.post self.now.below.parts.nested) }
-        ensures { Reads (spec.path_used (parse self.now.below.parts.depth) path cursor.old) result cursor.new }
+        ensures { Reads (spec.path_used self.now.below.parts.depth (parse self.now.below.parts.depth) path cursor.old) result cursor.new }
     {
         if let Some(form) = cursor.post_update() {
             return self.updated(cursor, path, form);

@@ -155,29 +155,45 @@ impl<F: Fn(Global, &mut Cursor<'_>, usize, Form) -> Result<Boxed<Expr>, ParseFau
         self.turn(cursor, found, method)
     }
 
-    /// Steps, calls and members, as long as there are any.
+    /// Steps behind as many calls and members as may nest.
+    #[tactic(auto, unfolding(hph_fexpr::specs::Postfix::goes_on_from))]
+    fn last_turn(
+        &self,
+        cursor: &mut Cursor<'_>,
+        found: Boxed<Expr>,
+    ) -> Result<Boxed<Expr>, ParseFault>
+        requires { Nests self.now.parts.depth (F.pre self.now.parts.nested) (F.post self.now.parts.nested) }
+        ensures { Reads (spec.goes_on_from (parse self.now.parts.depth) 1 found cursor.old) result cursor.new }
+    {
+        match self.one_turn(cursor, found)? {
+            Turn::Longer(_) => Err(cursor.refuse()),
+            Turn::Whole(whole) => Ok(whole),
+        }
+    }
+
+    /// Steps, calls and members, as long as there are any, of which no more may stand in a row than parts may nest.
     pub fn goes_on(
         &self,
         cursor: &mut Cursor<'_>,
         mut found: Boxed<Expr>,
     ) -> Result<Boxed<Expr>, ParseFault>
         requires { Nests self.now.parts.depth (F.pre self.now.parts.nested) (F.post self.now.parts.nested) }
-        ensures { Reads (spec.goes_on (parse self.now.parts.depth) found cursor.old) result cursor.new }
+        ensures { Reads (spec.goes_on (parse self.now.parts.depth) self.now.parts.depth found cursor.old) result cursor.new }
     {
-        for _turn in 0..cursor.left() {
+        for _turn in 0..self.parts.depth {
             match self.one_turn(cursor, found)? {
                 Turn::Longer(longer) => found = longer,
                 Turn::Whole(whole) => return Ok(whole),
             }
         }
-        Ok(found)
+        self.last_turn(cursor, found)
     }
 
     /// An expression without operators.
     #[tactic(auto, unfolding(hph_fexpr::specs::Postfix::postfix))]
     pub fn postfix(&self, cursor: &mut Cursor<'_>) -> Result<Boxed<Expr>, ParseFault>
         requires { Nests self.now.parts.depth (F.pre self.now.parts.nested) (F.post self.now.parts.nested) }
-        ensures { Reads (spec.postfix (parse self.now.parts.depth) cursor.old) result cursor.new }
+        ensures { Reads (spec.postfix (parse self.now.parts.depth) self.now.parts.depth cursor.old) result cursor.new }
     {
         let found = self.primary(cursor)?;
         self.goes_on(cursor, found)
