@@ -227,7 +227,7 @@ module _ (laws : NestingLaws) (depth : ℕ) (below : Form → Parser Expr) (all 
   -- After an expression of a level, the levels below it are left.
   spelled : (least : ℕ) {l : ℕ} {ts rest : List Token} {x : Expr} → IsExpression l ts x rest → least ≤ l → l ≤ top → next rest < l →
       nesting x ≤ suc depth →
-      and_then (term below ts) (p.climb below least top) ≡ p.climb below least l x rest
+      and_then (term depth below ts) (p.climb below least top) ≡ p.climb below least l x rest
   spelled least {l = l} (g.term {rest = rest} {x = x} d) low high h small =
       then_is _ (term_is laws depth below all d small (omega arith)) (skip least top l x rest high low h)
   spelled least {l = l} (g.run {rest = rest} {x = x} le how d
@@ -286,7 +286,7 @@ module _ (laws : NestingLaws) (depth : ℕ) (below : Form → Parser Expr) (all 
       ∙ skip least ternary_level l (e.ShortTernary at x (y ∷ ys)) rest le low h
 
   pub one_level_is : (l : ℕ) (ts rest : List Token) (x : Expr) → l ≤ top → IsExpression l ts x rest → nesting x ≤ suc depth → Stops l rest →
-      p.one_level below l ts ≡ Some (x, rest)
+      p.one_level below depth l ts ≡ Some (x, rest)
   unfolding p.one_level
   one_level_is l ts rest x high d small stops =
       spelled l d (omega arith) high stops.below small ∙ reached l l x rest (omega arith) stops.below

@@ -229,6 +229,6 @@ module _ (below : Form → Parser Expr) (ok : Sound below) where
   climb_any least n x ts mid d =
       elim (leb_tells least n) [ inl h ↦ climb_ok least n x ts mid h.1 (g.term d) | inr h ↦ climb_none least n x ts mid h.1 d ]
 
-  pub one_level_ok : (least : ℕ) (ts : List Token) → Gives (Whole least ts) (p.one_level below least ts)
+  pub one_level_ok : (links least : ℕ) (ts : List Token) → Gives (Whole least ts) (p.one_level below links least ts)
   unfolding p.one_level
-  one_level_ok least ts = then_ok (term_ok below ok ts) (λ x mid d. climb_any least top x ts mid d)
+  one_level_ok links least ts = then_ok (term_ok links below ok ts) (λ x mid d. climb_any least top x ts mid d)

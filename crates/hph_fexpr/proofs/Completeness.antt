@@ -11,7 +11,7 @@ use Rattle.hph_fexpr.proofs.NestingGrows.{postfix_positive, expression_positive}
 use Rattle.hph_fexpr.proofs.PostfixComplete.{postfix_is}
 use Rattle.hph_fexpr.proofs.ClimbComplete.{one_level_is}
 
-one_form_is : (laws : NestingLaws) (depth : ℕ) (below : Form → Parser Expr) → Complete depth below → Complete (suc depth) (one_form below)
+one_form_is : (laws : NestingLaws) (depth : ℕ) (below : Form → Parser Expr) → Complete depth below → Complete (suc depth) (one_form depth below)
 one_form_is laws depth below all = record {
   level = λ l ts rest x high d small stops. one_level_is laws depth below all l ts rest x high d small stops;
   postfix = λ ts rest x d small ends. postfix_is laws depth below all d small ends;

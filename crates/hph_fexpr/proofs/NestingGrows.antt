@@ -58,7 +58,7 @@ module _ (laws : NestingLaws) where
   scoped_positive (g.static_call {class = class} {c = c} {name = name} {xs = xs} d opens args) =
       omega (arith, laws.static_call (span (class_place class) (on c)) class name xs)
 
-  primary_positive : {ts rest : List Token} {x : Expr} → IsPrimary ts x rest → 1 ≤ nesting x
+  pub primary_positive : {ts rest : List Token} {x : Expr} → IsPrimary ts x rest → 1 ≤ nesting x
   primary_positive (g.int {t = t} {v = v} is) = omega (arith, laws.int (on t) v)
   primary_positive (g.text {t = t} {bytes = bytes} is) = omega (arith, laws.text (on t) bytes)
   primary_positive (g.interpolated {t = t} {c = c} {bytes = bytes} {parts = parts} is d) =

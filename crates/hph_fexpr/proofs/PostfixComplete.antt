@@ -1,5 +1,5 @@
 -- Steps, calls and members behind a primary: what is in the grammar is what the parser answers.
-use Rattle.std.specs.Prelude.{◌≡◌, ℕ, zero, suc, ◌<◌, ◌≤◌, Bool, true, false, ◌&&◌, List, [], ◌∷◌, ◌++◌, length, Option, Some, None, refl}
+use Rattle.std.specs.Prelude.{◌≡◌, ℕ, zero, suc, ◌+◌, ◌<◌, ◌≤◌, Bool, true, false, ◌&&◌, List, [], ◌∷◌, ◌++◌, length, Option, Some, None, refl}
 use Rattle.std.proofs.Common.{ap, sym, ◌∙◌, arith, append_assoc, append-nil}
 use Rattle.hph_ast.specs.declared.token.Token.{Token}
 use Rattle.hph_ast.specs.declared.token.Mark.TheVariants as m
@@ -24,7 +24,7 @@ use Rattle.hph_fexpr.specs.Postfix as p
 use Rattle.hph_fexpr.proofs.Tools.{then_is, if_true, if_false, mark_is, expect_is, opens_sees}
 use Rattle.hph_fexpr.proofs.Shorter.{expression_shorter, step_shorter, steps_shorter, member_shorter, arguments_shorter, scoped_shorter}
 use Rattle.hph_fexpr.proofs.Firsts.{Complete, closed_is, not_first, expression_heads}
-use Rattle.hph_fexpr.proofs.NestingGrows.{goes_on_deep, by_call_deep, steps_deep}
+use Rattle.hph_fexpr.proofs.NestingGrows.{goes_on_deep, by_call_deep, steps_deep, with_steps_deep, scoped_deep, primary_positive}
 use Rattle.hph_fexpr.proofs.ListsComplete.{arguments_is}
 use Rattle.hph_fexpr.proofs.ClassesComplete.{member_is, scoped_is}
 use Rattle.hph_fexpr.proofs.PrimariesComplete.{Colons, primary_is}
@@ -93,9 +93,9 @@ module _ (laws : NestingLaws) (depth : ℕ) (below : Form → Parser Expr) (all 
       ∙ ap (λ ss. Some ((ss, stop), rest)) (append_assoc found (step ∷ []) ss)))))
 
   -- what a turn leaves to do
-  data After (mid : List Token) (y : Expr) (rest : List Token) : Turn → List Token → Type 0 where
-    done : After mid y rest (Whole y) rest
-    goes : {x : Expr} {us : List Token} → GoesOn x us y rest → length us < length mid → After mid y rest (Longer x) us
+  data After (start y : Expr) (rest : List Token) : Turn → List Token → Type 0 where
+    done : After start y rest (Whole y) rest
+    goes : {x : Expr} {us : List Token} → GoesOn x us y rest → nesting start < nesting x → After start y rest (Longer x) us
 
   record TurnIs (x : Expr) (mid : List Token) (y : Expr) (rest : List Token) : Type 0 where
     stop : Option MemberName
@@ -104,7 +104,7 @@ module _ (laws : NestingLaws) (depth : ℕ) (below : Form → Parser Expr) (all 
     turn : Turn
     vs : List Token
     is : p.turn below x stop us ≡ Some (turn, vs)
-    after : After mid y rest turn vs
+    after : After x y rest turn vs
 
   turn_is : {x y : Expr} {mid rest : List Token} → GoesOnByCall x mid y rest → nesting y ≤ suc depth → Ends rest → TurnIs x mid y rest
   unfolding p.turn p.method_call p.dynamic_call
@@ -127,7 +127,7 @@ module _ (laws : NestingLaws) (depth : ℕ) (below : Form → Parser Expr) (all 
         turn = Longer (e.MethodCall (span (place x) (on c)) x name xs);
         vs = after;
         is = if_true _ _ read (then_is _ (then_is _ (arguments_is laws depth below all args (omega arith)) refl) refl);
-        after = goes more (omega (arith, member_shorter d, arguments_shorter args));
+        after = goes more (omega arith);
       }
   turn_is (g.call_of {ts = ts} {mid = mid} {o = o} {c = c} {x = x} {xs = xs} read callable opens args more) small ends =
       let n = laws.dynamic_call (span (place x) (on c)) x xs in
@@ -140,7 +140,7 @@ module _ (laws : NestingLaws) (depth : ℕ) (below : Form → Parser Expr) (all 
         turn = Longer (e.DynamicCall (span (place x) (on c)) x xs);
         vs = mid;
         is = if_true _ _ three (then_is _ (then_is _ (arguments_is laws depth below all args (omega arith)) refl) refl);
-        after = goes more (omega (arith, arguments_shorter args));
+        after = goes more (omega arith);
       }
   turn_is (g.member_of {ts = ts} {mid = mid} {t = t} {x = x} {y = y} read class colons d more) small ends =
       let deep = goes_on_deep laws more in
@@ -153,14 +153,14 @@ module _ (laws : NestingLaws) (depth : ℕ) (below : Form → Parser Expr) (all 
         vs = mid;
         is = if_false _ _ (false_and (sees m.OpenParen (t ∷ ts)) (is_read x && is_callable x) (ap (is_mark m.OpenParen) colons))
             (if_true _ _ three (then_is _ (scoped_is laws depth below all colons d (omega arith)) refl));
-        after = goes more (omega (arith, scoped_shorter d));
+        after = goes more (omega (arith, laws.class_by_expression (place x) x, scoped_deep laws d));
       }
 
-  turned_is : {mid rest vs : List Token} {y : Expr} {turn : Turn} (go : Expr → Parser Expr) →
-      ((x : Expr) (us : List Token) → GoesOn x us y rest → length us < length mid → go x us ≡ Some (y, rest)) →
-      After mid y rest turn vs → p.turned go turn vs ≡ Some (y, rest)
+  turned_is : {rest vs : List Token} {start y : Expr} {turn : Turn} (go : Expr → Parser Expr) →
+      ((x : Expr) (us : List Token) → GoesOn x us y rest → nesting start < nesting x → go x us ≡ Some (y, rest)) →
+      After start y rest turn vs → p.turned go turn vs ≡ Some (y, rest)
   turned_is go h done = refl
-  turned_is go h (goes {x = x} {us = us} more short) = h x us more short
+  turned_is go h (goes {x = x} {us = us} more deeper) = h x us more deeper
 
   -- the steps of an expression that goes on, and what it goes on with behind them
   record Split (x : Expr) (ts : List Token) (y : Expr) (rest : List Token) : Type 0 where
@@ -173,29 +173,27 @@ module _ (laws : NestingLaws) (depth : ℕ) (below : Form → Parser Expr) (all 
   split {ts = ts} (g.no_steps d) = record { steps = []; mid = ts; are = g.steps_end; more = d }
   split (g.path {mid = mid} {step = step} {steps = steps} ss d) = record { steps = step ∷ steps; mid = mid; are = ss; more = d }
 
-  goes_on_from_is : (n : ℕ) {x y : Expr} {ts rest : List Token} → GoesOn x ts y rest → length ts ≤ n → nesting y ≤ suc depth → Ends rest →
-      p.goes_on_from below n x ts ≡ Some (y, rest)
+  -- each turn but the last nests at least one deeper
+  goes_on_from_is : (n : ℕ) {x y : Expr} {ts rest : List Token} → GoesOn x ts y rest → nesting y < nesting x + n → nesting y ≤ suc depth →
+      Ends rest → p.goes_on_from below n x ts ≡ Some (y, rest)
   unfolding p.goes_on_from p.one_turn p.steps
-  goes_on_from_is zero (g.no_steps g.ends) short small ends = refl
-  goes_on_from_is zero (g.no_steps (g.method read arrow d opens args more)) short small ends = absurd (omega arith)
-  goes_on_from_is zero (g.no_steps (g.call_of read callable opens args more)) short small ends = absurd (omega arith)
-  goes_on_from_is zero (g.no_steps (g.member_of read class colons d more)) short small ends = absurd (omega arith)
-  goes_on_from_is zero (g.path (g.steps_more d ss) more) short small ends = absurd (omega (arith, step_shorter d))
-  goes_on_from_is (suc n) {x = x} {ts = ts} d short small ends =
+  goes_on_from_is zero d few small ends = absurd (omega (arith, goes_on_deep laws d))
+  goes_on_from_is (suc n) {x = x} {ts = ts} d few small ends =
       let a = split d in
       let deep = by_call_deep laws a.more in
+      let with = with_steps_deep laws x a.steps in
       let t = turn_is a.more small ends in
       let steps_use = steps_shorter a.are in
       then_is _ (then_is _ (steps_from_is (length ts) [] a.are t.stops (omega arith) (steps_deep laws depth x a.steps (omega arith))) t.is)
-      (turned_is (p.goes_on_from below n) (λ z us more less. goes_on_from_is n more (omega arith) small ends) t.after)
+      (turned_is (p.goes_on_from below n) (λ z us more deeper. goes_on_from_is n more (omega arith) small ends) t.after)
 
-  pub goes_on_is : {x y : Expr} {ts rest : List Token} → GoesOn x ts y rest → nesting y ≤ suc depth → Ends rest →
-      p.goes_on below x ts ≡ Some (y, rest)
+  pub goes_on_is : {x y : Expr} {ts rest : List Token} → GoesOn x ts y rest → 1 ≤ nesting x → nesting y ≤ suc depth → Ends rest →
+      p.goes_on below depth x ts ≡ Some (y, rest)
   unfolding p.goes_on
-  goes_on_is {ts = ts} d small ends = goes_on_from_is (length ts) d (omega arith) small ends
+  goes_on_is d positive small ends = goes_on_from_is (suc depth) d (omega arith) small ends
 
   pub postfix_is : {ts rest : List Token} {x : Expr} → IsPostfix ts x rest → nesting x ≤ suc depth → Ends rest →
-      p.postfix below ts ≡ Some (x, rest)
+      p.postfix below depth ts ≡ Some (x, rest)
   unfolding p.postfix
-  postfix_is (g.primary d more) small ends = let deep =
-      goes_on_deep laws more in then_is _ (primary_is laws depth below all d (omega arith) (colons_of more ends)) (goes_on_is more small ends)
+  postfix_is (g.primary d more) small ends = let deep = goes_on_deep laws more in
+      then_is _ (primary_is laws depth below all d (omega arith) (colons_of more ends)) (goes_on_is more (primary_positive laws d) small ends)

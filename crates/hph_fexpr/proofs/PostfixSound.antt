@@ -138,14 +138,14 @@ module _ (below : Form → Parser Expr) (ok : Sound below) where
 
   goes_on_from_ok : (n : ℕ) (x : Expr) (ts : List Token) → Gives (GoesOn x ts) (p.goes_on_from below n x ts)
   unfolding p.goes_on_from
-  goes_on_from_ok zero x ts = some (g.no_steps g.ends)
+  goes_on_from_ok zero x ts = none
   goes_on_from_ok (suc n) x ts = then_ok (one_turn_ok x ts) (λ turn vs d. turned_ok x (p.goes_on_from below n) (goes_on_from_ok n) d.steps d.are d.of)
 
-  pub goes_on_ok : (ts mid : List Token) (x : Expr) → ((z : Expr) (rest : List Token) → GoesOn x mid z rest → IsPostfix ts z rest) →
-      Gives (IsPostfix ts) (p.goes_on below x mid)
+  pub goes_on_ok : (links : ℕ) (ts mid : List Token) (x : Expr) → ((z : Expr) (rest : List Token) → GoesOn x mid z rest → IsPostfix ts z rest) →
+      Gives (IsPostfix ts) (p.goes_on below links x mid)
   unfolding p.goes_on
-  goes_on_ok ts mid x h = map_ok (goes_on_from_ok (length mid) x mid) h
+  goes_on_ok links ts mid x h = map_ok (goes_on_from_ok (suc links) x mid) h
 
-  pub postfix_ok : (ts : List Token) → Gives (IsPostfix ts) (p.postfix below ts)
+  pub postfix_ok : (links : ℕ) (ts : List Token) → Gives (IsPostfix ts) (p.postfix below links ts)
   unfolding p.postfix
-  postfix_ok ts = then_ok (primary_ok below ok ts) (λ x mid d. goes_on_ok ts mid x (λ z rest more. g.primary d more))
+  postfix_ok links ts = then_ok (primary_ok below ok ts) (λ x mid d. goes_on_ok links ts mid x (λ z rest more. g.primary d more))

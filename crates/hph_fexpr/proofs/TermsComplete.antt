@@ -165,7 +165,7 @@ pre_update_prefix (terminal.pre_decrement is) = ap prefix_of is
 module _ (laws : NestingLaws) (depth : ℕ) (below : Form → Parser Expr) (all : Complete depth below) where
   by_opening : {ts mid rest : List Token} {x y : Expr} → IsPostfix ts y rest → Opening ts x mid → GoesOn x mid y rest →
       nesting y ≤ suc depth → Ends rest → Sets y rest →
-      p.operand below ts ≡ p.path_used below y rest
+      p.operand depth below ts ≡ p.path_used depth below y rest
   unfolding p.bracketed p.from_array
   by_opening {mid = mid} whole (an_array {o = o} {c = c} {items = items} opens d) more small ends sets =
       let n = laws.array (span (on o) (on c)) Short items in
@@ -173,24 +173,24 @@ module _ (laws : NestingLaws) (depth : ℕ) (below : Form → Parser Expr) (all 
       if_true _ _ (mark_is m.OpenBracket opens)
       (then_is _ (items_is laws depth below all m.CloseBracket bracket_closes d (omega arith))
       (if_false _ _ (array_set (span (on o) (on c)) items more sets)
-      (then_is _ (goes_on_is laws depth below all more small ends) refl)))
+      (then_is _ (goes_on_is laws depth below all more (omega arith) small ends) refl)))
   by_opening whole (another shut) more small ends sets =
       if_false _ _ shut (then_is _ (postfix_is laws depth below all whole small ends) refl)
 
   operand_is : {ts rest : List Token} {x : Expr} → IsPostfix ts x rest → nesting x ≤ suc depth → Ends rest → Sets x rest →
-      p.operand below ts ≡ p.path_used below x rest
+      p.operand depth below ts ≡ p.path_used depth below x rest
   operand_is (g.primary d more) small ends sets = by_opening (g.primary d more) (opening d) more small ends sets
 
   -- a term that begins with a path
   path_first : {ts rest : List Token} {x : Expr} {z : _} → IsPostfix ts x rest → nesting x ≤ suc depth → Ends rest → Sets x rest →
-      p.path_used below x rest ≡ z → p.term below ts ≡ z
+      p.path_used depth below x rest ≡ z → p.term depth below ts ≡ z
   unfolding p.term
   path_first d small ends sets h =
       choose_none _ _ (begins_prefix (postfix_begins d))
       (choose_none _ _ (begins_update (postfix_begins d)) (operand_is d small ends sets ∙ h))
 
   pub term_is : {ts rest : List Token} {x : Expr} → IsTerm ts x rest → nesting x ≤ suc depth → next rest < top →
-      p.term below ts ≡ Some (x, rest)
+      p.term depth below ts ≡ Some (x, rest)
   unfolding p.term p.path_used p.post_updated p.assigned p.bound p.valued_by p.pre_updated p.bracketed p.destructured p.prefixed
   term_is (g.postfix {rest = rest} {x = x} d read) small h = path_first d small (ends_by h) (no_set x rest h)
       (choose_none _ _ (no_update rest h) (choose_none _ _ (no_assignment rest h) (if_true _ _ read refl)))

@@ -58,18 +58,18 @@ set_kind_true : (kind : Kind) → is_set_kind kind ≡ true → kind ≡ k.Assig
 set_kind_true (k.Assign op) h = ap k.Assign (set_true op h)
 set_kind_true _ h = absurd (cc)
 
-module _ (below : Form → Parser Expr) (ok : Sound below) where
+module _ (links : ℕ) (below : Form → Parser Expr) (ok : Sound below) where
   bound_ok : (ts us : List Token) (t : Token) (x : Expr) → IsPostfix ts x (t ∷ us) → is_written x ≡ true → t.kind ≡ k.Assign a.Set →
-      is_next is_ampersand us ≡ true → Gives (IsTerm ts) (p.bound below x us)
+      is_next is_ampersand us ≡ true → Gives (IsTerm ts) (p.bound links below x us)
   unfolding p.bound
   bound_ok ts [] t x d written is h = none
-  bound_ok ts (q ∷ us) t x d written is h = then_ok (postfix_ok below ok us) (λ y vs f. if_ok (is_source y)
+  bound_ok ts (q ∷ us) t x d written is h = then_ok (postfix_ok below ok links us) (λ y vs f. if_ok (is_source y)
       (λ source. stopped_ok (suc assign_level) (e.AssignReference (span (place x) (place y)) x y q.start) vs
       (λ stops. g.assign_reference d written is (ampersand_true q.kind h) f source stops))
       (λ _. none))
 
   assigned_ok : (ts us : List Token) (t : Token) (x : Expr) (op : Assignment) → IsPostfix ts x (t ∷ us) → is_written x ≡ true →
-      t.kind ≡ k.Assign op → Gives (IsTerm ts) (p.assigned below x op (t ∷ us))
+      t.kind ≡ k.Assign op → Gives (IsTerm ts) (p.assigned links below x op (t ∷ us))
   unfolding p.assigned p.valued_by
   assigned_ok ts us t x op d written is = if_ok (is_set op && is_next is_ampersand us)
       (λ h. let c = both_true (is_set op) (is_next is_ampersand us) h in
@@ -79,7 +79,7 @@ module _ (below : Form → Parser Expr) (ok : Sound below) where
   unused_ok : (ts mid : List Token) (x : Expr) → IsPostfix ts x mid → Gives (IsTerm ts) (if is_read x then Some (x, mid) else None)
   unused_ok ts mid x d = if_ok (is_read x) (λ read. some (g.postfix d read)) (λ _. none)
 
-  path_used_ok : (ts mid : List Token) (x : Expr) → IsPostfix ts x mid → Gives (IsTerm ts) (p.path_used below x mid)
+  path_used_ok : (ts mid : List Token) (x : Expr) → IsPostfix ts x mid → Gives (IsTerm ts) (p.path_used links below x mid)
   unfolding p.path_used p.post_updated
   path_used_ok ts [] x d = unused_ok ts [] x d
   path_used_ok ts (t ∷ us) x d = choose_ok (post_update_of t.kind)
@@ -89,7 +89,7 @@ module _ (below : Form → Parser Expr) (ok : Sound below) where
 
   destructured_ok : (o : Token) (ts us : List Token) (r : Elements) → IsMark m.OpenBracket o → Found m.CloseBracket [] false ts r us →
       is_next is_set_kind us ≡ true →
-      Gives (IsTerm (o ∷ ts)) (p.destructured below o r us)
+      Gives (IsTerm (o ∷ ts)) (p.destructured links below o r us)
   unfolding p.destructured
   destructured_ok o ts [] r opens f h = none
   destructured_ok o ts (t ∷ us) r opens f h = then_ok (ok (Level (suc assign_level)) us) (λ y rest d.
@@ -97,13 +97,13 @@ module _ (below : Form → Parser Expr) (ok : Sound below) where
       (g.destructure opens (f.as_targets refl) (set_kind_true t.kind h) d.is d.stops)))
 
   from_array_ok : (o : Token) (ts us : List Token) (r : Elements) → IsMark m.OpenBracket o → Found m.CloseBracket [] false ts r us →
-      Gives (IsTerm (o ∷ ts)) (p.from_array below o r us)
+      Gives (IsTerm (o ∷ ts)) (p.from_array links below o r us)
   unfolding p.from_array
   from_array_ok o ts us r opens f = then_ok (then_ok (array_ok m.CloseBracket o Short (o ∷ ts) ts us r f (λ xs c d. g.short_array opens d))
-      (λ x vs d. goes_on_ok below ok (o ∷ ts) vs x (λ z rest more. g.primary d more)))
+      (λ x vs d. goes_on_ok below ok links (o ∷ ts) vs x (λ z rest more. g.primary d more)))
       (λ x vs d. path_used_ok (o ∷ ts) vs x d)
 
-  bracketed_ok : (ts : List Token) → sees m.OpenBracket ts ≡ true → Gives (IsTerm ts) (p.bracketed below ts)
+  bracketed_ok : (ts : List Token) → sees m.OpenBracket ts ≡ true → Gives (IsTerm ts) (p.bracketed links below ts)
   unfolding p.bracketed
   bracketed_ok [] h = none
   bracketed_ok (o ∷ ts) h = let opens =
@@ -111,23 +111,23 @@ module _ (below : Form → Parser Expr) (ok : Sound below) where
       (λ sets. destructured_ok o ts us r opens f sets)
       (λ _. from_array_ok o ts us r opens f))
 
-  operand_ok : (ts : List Token) → Gives (IsTerm ts) (p.operand below ts)
+  operand_ok : (ts : List Token) → Gives (IsTerm ts) (p.operand links below ts)
   operand_ok ts = if_ok (sees m.OpenBracket ts) (λ h. bracketed_ok ts h)
-      (λ _. then_ok (postfix_ok below ok ts) (λ x mid d. path_used_ok ts mid x d))
+      (λ _. then_ok (postfix_ok below ok links ts) (λ x mid d. path_used_ok ts mid x d))
 
   pre_updated_ok : (t : Token) (ts : List Token) (form : Update) → IsPreUpdate t form →
-      Gives (IsTerm (t ∷ ts)) (p.pre_updated below form (t ∷ ts))
+      Gives (IsTerm (t ∷ ts)) (p.pre_updated links below form (t ∷ ts))
   unfolding p.pre_updated
-  pre_updated_ok t ts form is = then_ok (postfix_ok below ok ts) (λ x us d. if_ok (is_written x)
+  pre_updated_ok t ts form is = then_ok (postfix_ok below ok links ts) (λ x us d. if_ok (is_written x)
       (λ written. stopped_ok (suc update_level) (e.Update (span (on t) (place x)) form x) us (λ stops. g.updates is d written stops))
       (λ _. none))
 
   prefixed_ok : (t : Token) (ts : List Token) (op : Prefix) → prefix_of t.kind ≡ Some op →
-      Gives (IsTerm (t ∷ ts)) (p.prefixed below op (t ∷ ts))
+      Gives (IsTerm (t ∷ ts)) (p.prefixed links below op (t ∷ ts))
   unfolding p.prefixed
   prefixed_ok t ts op is = then_ok (ok (Level (suc (prefix_level op))) ts) (λ x rest d. some (g.prefix is d.is d.stops))
 
-  pub term_ok : (ts : List Token) → Gives (IsTerm ts) (p.term below ts)
+  pub term_ok : (ts : List Token) → Gives (IsTerm ts) (p.term links below ts)
   unfolding p.term
   term_ok [] = operand_ok []
   term_ok (t ∷ ts) = choose_ok (prefix_of t.kind)

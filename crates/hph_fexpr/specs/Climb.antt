@@ -80,5 +80,5 @@ module _ (below : Form → Parser Expr) where
       if nat_le least n then (if next ts == n then (longer n x >>= climb least n) ts else climb least n x ts)
       else stopped least x ts
 
-  unfoldable pub one_level : ℕ → Parser Expr
-  one_level least = term below >>= climb least top
+  unfoldable pub one_level : ℕ → ℕ → Parser Expr
+  one_level links least = term links below >>= climb least top

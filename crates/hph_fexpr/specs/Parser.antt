@@ -7,11 +7,11 @@ use Rattle.hph_cursor.specs.Steps.{Parser, fail}
 use Rattle.hph_fexpr.specs.Postfix.{postfix}
 use Rattle.hph_fexpr.specs.Climb.{one_level}
 
-abbrev pub one_form : (Form → Parser Expr) → Form → Parser Expr
-one_form below (Level least) = one_level below least
-one_form below Postfix = postfix below
+abbrev pub one_form : ℕ → (Form → Parser Expr) → Form → Parser Expr
+one_form depth below (Level least) = one_level below depth least
+one_form depth below Postfix = postfix below depth
 
 -- trees nested no deeper than the number
 unfoldable pub parse : ℕ → Form → Parser Expr
 parse zero form = fail
-parse (suc depth) form = one_form (parse depth) form
+parse (suc depth) form = one_form depth (parse depth) form

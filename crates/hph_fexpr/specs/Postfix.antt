@@ -62,13 +62,14 @@ module _ (below : Form → Parser Expr) where
   unfoldable pub one_turn : Expr → Parser Turn
   one_turn x = steps >>= λ r. turn (with_steps x r.0) r.1
 
-  -- steps, calls and members, as long as there are any
+  -- steps, calls and members, as long as there are any: none where the turns end before the expression does
   unfoldable pub goes_on_from : ℕ → Expr → Parser Expr
-  goes_on_from zero x ts = Some (x, ts)
+  goes_on_from zero x ts = None
   goes_on_from (suc n) x ts = (one_turn x >>= turned (goes_on_from n)) ts
 
-  unfoldable pub goes_on : Expr → Parser Expr
-  goes_on x ts = goes_on_from (length ts) x ts
+  -- each call and each member nests one deeper, so there are at most as many as the number
+  unfoldable pub goes_on : ℕ → Expr → Parser Expr
+  goes_on links x ts = goes_on_from (suc links) x ts
 
-  unfoldable pub postfix : Parser Expr
-  postfix = primary below >>= goes_on
+  unfoldable pub postfix : ℕ → Parser Expr
+  postfix links = primary below >>= goes_on links

@@ -24,13 +24,13 @@ use Rattle.hph_fexpr.specs.Postfix.{goes_on, postfix}
 abbrev pub stopped : {A : Type 0} → ℕ → A → Parser A
 stopped n a ts = if nat_lt (next ts) n then Some (a, ts) else None
 
-module _ (below : Form → Parser Expr) where
+module _ (links : ℕ) (below : Form → Parser Expr) where
   unfoldable pub prefixed : Prefix → Parser Expr
   prefixed op = take_token >>= λ t. below (Level (suc (prefix_level op))) >>= λ x. pure (e.Prefix (span (on t) (place x)) op x)
 
   -- a written path, and that nothing follows which binds tighter than the operator
   unfoldable pub pre_updated : Update → Parser Expr
-  pre_updated form = take_token >>= λ t. postfix below >>= λ x. λ us.
+  pre_updated form = take_token >>= λ t. postfix below links >>= λ x. λ us.
       if is_written x then stopped (suc update_level) (e.Update (span (on t) (place x)) form x) us else None
 
   -- behind a written path
@@ -39,7 +39,7 @@ module _ (below : Form → Parser Expr) where
 
   -- behind "=", at "&"
   unfoldable pub bound : Expr → Parser Expr
-  bound x = take_token >>= λ q. postfix below >>= λ y. λ us.
+  bound x = take_token >>= λ q. postfix below links >>= λ y. λ us.
       if is_source y then stopped (suc assign_level) (e.AssignReference (span (place x) (place y)) x y q.start) us else None
 
   unfoldable pub valued_by : Expr → Assignment → Parser Expr
@@ -61,7 +61,7 @@ module _ (below : Form → Parser Expr) where
   destructured o r = take_token >> (below (Level (suc assign_level)) >>= λ y. pure (e.Destructure (span (on o) (place y)) r.items y))
 
   unfoldable pub from_array : Token → Elements → Parser Expr
-  from_array o r = array_of o Short r >>= goes_on below >>= path_used
+  from_array o r = array_of o Short r >>= goes_on below links >>= path_used
 
   -- an array, or the left side of a destructuring
   unfoldable pub bracketed : Parser Expr
@@ -69,7 +69,7 @@ module _ (below : Form → Parser Expr) where
       if is_next is_set_kind us then destructured o r us else from_array o r us
 
   abbrev pub operand : Parser Expr
-  operand ts = if sees m.OpenBracket ts then bracketed ts else (postfix below >>= path_used) ts
+  operand ts = if sees m.OpenBracket ts then bracketed ts else (postfix below links >>= path_used) ts
 
   unfoldable pub term : Parser Expr
   term ts = choose (of_next prefix_of ts) (choose (of_next pre_update_of ts) (operand ts) (λ form. pre_updated form ts))

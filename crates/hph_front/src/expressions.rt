@@ -393,11 +393,15 @@ fn nested(
 }
 
 /// How many of each are read: an expression is nested up to 512 deep, so that a statement in a file has room for 510.
-static DEEPEST: [(usize, &str, &str, &str); 4] = [
+static DEEPEST: [(usize, &str, &str, &str); 8] = [
     (511, "!", "1", ""),
     (256, "[", "", "]"),
     (511, "(", "1", ")"),
+    (511, "", "$a", "()"),
     (511, "", "$a", "->m()"),
+    (255, "", "$a", "::b"),
+    (255, "", "$a", "::$b"),
+    (256, "", "a", "::b"),
 ];
 
 #[test]
@@ -413,6 +417,24 @@ fn reads_what_is_nested_up_to_the_limit(rt: HostRuntime) -> Result<(), Fail> {
             is_refused(&rt, rt.alloc(), deeper.as_str())?,
             "{before}{behind}"
         );
+    }
+    Ok(())
+}
+
+/// What each link of a chain is, behind what it begins with.
+static LINKS: [(&str, &str); 5] = [
+    ("$a", "()"),
+    ("$a", "->m()"),
+    ("$a", "::b"),
+    ("$a", "::$b"),
+    ("a", "::b"),
+];
+
+#[test]
+fn ends_a_chain_far_past_the_limit(rt: HostRuntime) -> Result<(), Fail> {
+    for (inner, behind) in &LINKS {
+        let source = nested(rt.alloc(), 30000, "", inner, behind)?;
+        assert!(rt; is_refused(&rt, rt.alloc(), source.as_str())?, "{behind}");
     }
     Ok(())
 }

@@ -170,9 +170,9 @@ fn print_call(
             arguments,
             ..
         } => {
-            print_class(alloc, depth, out, class)?;
+            print_class(alloc, depth, out, class.get())?;
             out.push_str("::")?;
-            print_name(alloc, depth, out, name)?;
+            print_name(alloc, depth, out, name.get())?;
             print_list(alloc, depth, out, arguments.as_slice())
         }
         Expr::MethodCall {
@@ -183,7 +183,7 @@ fn print_call(
         } => {
             print(alloc, depth, out, object.get())?;
             out.push_str("->")?;
-            print_name(alloc, depth, out, name)?;
+            print_name(alloc, depth, out, name.get())?;
             print_list(alloc, depth, out, arguments.as_slice())
         }
         Expr::New {
@@ -192,7 +192,7 @@ fn print_call(
             ..
         } => {
             out.push_str("new ")?;
-            print_class(alloc, depth, out, class)?;
+            print_class(alloc, depth, out, class.get())?;
             print_list(alloc, depth, out, arguments.as_slice())
         }
         Expr::NamedArgument { name, value, .. } => {
@@ -217,16 +217,16 @@ fn print_member(
     let depth = depth - 1;
     match expr {
         Expr::ClassConstant { class, name, .. } => {
-            print_class(alloc, depth, out, class)?;
+            print_class(alloc, depth, out, class.get())?;
             out.push_str("::")?;
             spelled(out, name.as_slice())
         }
         Expr::ClassName { class, .. } => {
-            print_class(alloc, depth, out, class)?;
+            print_class(alloc, depth, out, class.get())?;
             out.push_str("::class")
         }
         Expr::StaticProperty { class, name, .. } => {
-            print_class(alloc, depth, out, class)?;
+            print_class(alloc, depth, out, class.get())?;
             out.push_str("::")?;
             variable(out, name.as_slice())
         }
@@ -522,7 +522,7 @@ fn print_steps(
             }
             Step::Property { name, .. } => {
                 out.push_str("->")?;
-                print_name(alloc, depth, out, name)?;
+                print_name(alloc, depth, out, name.get())?;
             }
         }
     }
@@ -587,16 +587,23 @@ fn print_item(
     }
     let depth = depth - 1;
     match item {
-        Item::Plain { value, .. } => print(alloc, depth, out, value),
-        Item::Keyed { key, value, .. } => print_pair(alloc, depth, out, key, "=>", value),
+        Item::Plain { value, .. } => print(alloc, depth, out, value.get()),
+        Item::Keyed { key, value, .. } => print_pair(
+            alloc,
+            depth,
+            out,
+            key.get(),
+            "=>",
+            value.get(),
+        ),
         Item::Reference { value, .. } => {
             out.push_str("&")?;
-            print(alloc, depth, out, value)
+            print(alloc, depth, out, value.get())
         }
         Item::KeyedReference { key, value, .. } => {
-            print(alloc, depth, out, key)?;
+            print(alloc, depth, out, key.get())?;
             out.push_str(" => &")?;
-            print(alloc, depth, out, value)
+            print(alloc, depth, out, value.get())
         }
         Item::Hole { .. } => Ok(()),
     }
@@ -618,7 +625,7 @@ fn print_parts(
             StringPart::Piece { bytes, .. } => spelled(out, bytes.as_slice())?,
             StringPart::Interpolation { value } => {
                 out.push_str("{")?;
-                print(alloc, depth, out, value)?;
+                print(alloc, depth, out, value.get())?;
                 out.push_str("}")?;
             }
         }

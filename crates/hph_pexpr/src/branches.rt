@@ -2,7 +2,7 @@
 
 ghost use Rattle.hph_cursor.specs.Reads.{Reads, ReadsAs};
 ghost use Rattle.hph_cursor.specs.Steps.{and_then, pure};
-ghost use Rattle.hph_postfix.specs.Nests.{Nests};
+ghost use Rattle.hph_enclosed.specs.Nests.{Nests};
 ghost use Rattle.hph_fexpr.specs.Parser.{parse};
 ghost use Rattle.hph_fexpr.specs.declared.form.Form.TheVariants as form;
 ghost use Rattle.std.specs.Prelude.{◌≡◌, suc, [], ◌∷◌, length};
@@ -35,8 +35,8 @@ impl<F: Fn(Global, &mut Cursor<'_>, usize, Form) -> Result<Boxed<Expr>, ParseFau
         cursor: &mut Cursor<'_>,
         mut found: Items<Expr>,
     ) -> Result<Items<Expr>, ParseFault>
-        requires { Nests self.now.below.depth (F.pre self.now.below.nested) (F.post self.now.below.nested) }
-        ensures { Reads (spec.shorts_from (parse self.now.below.depth) (length cursor.old) found cursor.old) result cursor.new }
+        requires { Nests self.now.below.parts.depth (F.pre self.now.below.parts.nested) (F.post self.now.below.parts.nested) }
+        ensures { Reads (spec.shorts_from (parse self.now.below.parts.depth) (length cursor.old) found cursor.old) result cursor.new }
     {
         for _turn in 0..cursor.left() {
             if !cursor.sees(Mark::Question) {
@@ -44,7 +44,12 @@ impl<F: Fn(Global, &mut Cursor<'_>, usize, Form) -> Result<Boxed<Expr>, ParseFau
             }
             cursor.take()?;
             cursor.expect(Mark::Colon)?;
-            found.push(self.below.level(cursor, TERNARY_LEVEL + 1)?.into_inner())?;
+            found.push(
+                self.below
+                    .parts
+                    .level(cursor, TERNARY_LEVEL + 1)?
+                    .into_inner(),
+            )?;
         }
         Ok(found)
     }
@@ -56,38 +61,38 @@ impl<F: Fn(Global, &mut Cursor<'_>, usize, Form) -> Result<Boxed<Expr>, ParseFau
         test: Boxed<Expr>,
         next: Boxed<Expr>,
     ) -> Result<Boxed<Expr>, ParseFault>
-        requires { Nests self.now.below.depth (F.pre self.now.below.nested) (F.post self.now.below.nested) }
-        ensures { Reads (and_then (spec.shorts_from (parse self.now.below.depth) (length cursor.old) (next ∷ []) cursor.old) (λ ys. pure (e.ShortTernary (places.span (places.place test) (places.last_expr (places.place test) ys)) test ys))) result cursor.new }
+        requires { Nests self.now.below.parts.depth (F.pre self.now.below.parts.nested) (F.post self.now.below.parts.nested) }
+        ensures { Reads (and_then (spec.shorts_from (parse self.now.below.parts.depth) (length cursor.old) (next ∷ []) cursor.old) (λ ys. pure (e.ShortTernary (places.span (places.place test) (places.last_expr (places.place test) ys)) test ys))) result cursor.new }
     {
-        let found = self.shorts(cursor, only(self.below.alloc, next.into_inner())?)?;
-        Ok(short_ternary_of(self.below.alloc, test, found)?)
+        let found = self.shorts(cursor, only(self.below.parts.alloc, next.into_inner())?)?;
+        Ok(short_ternary_of(self.below.parts.alloc, test, found)?)
     }
 
     /// Behind `?`, at `:`.
     #[tactic(auto, unfolding(hph_fexpr::specs::Climb::short))]
     fn short(&self, cursor: &mut Cursor<'_>, test: Boxed<Expr>) -> Result<Boxed<Expr>, ParseFault>
-        requires { Nests self.now.below.depth (F.pre self.now.below.nested) (F.post self.now.below.nested) }
-        ensures { Reads (spec.short (parse self.now.below.depth) test cursor.old) result cursor.new }
+        requires { Nests self.now.below.parts.depth (F.pre self.now.below.parts.nested) (F.post self.now.below.parts.nested) }
+        ensures { Reads (spec.short (parse self.now.below.parts.depth) test cursor.old) result cursor.new }
     {
         cursor.take()?;
-        let next = self.below.level(cursor, TERNARY_LEVEL + 1)?;
+        let next = self.below.parts.level(cursor, TERNARY_LEVEL + 1)?;
         self.short_from(cursor, test, next)
     }
 
     /// Behind `:`.
     fn last_branch(&self, cursor: &mut Cursor<'_>, head: Head) -> Result<Boxed<Expr>, ParseFault>
-        requires { Nests self.now.below.depth (F.pre self.now.below.nested) (F.post self.now.below.nested) }
-        ensures { Reads (and_then (parse self.now.below.depth (form.Level (suc ternary_level)) cursor.old) (λ z. pure (e.Ternary (places.span (places.place head.test) (places.place z)) head.test head.first z))) result cursor.new }
+        requires { Nests self.now.below.parts.depth (F.pre self.now.below.parts.nested) (F.post self.now.below.parts.nested) }
+        ensures { Reads (and_then (parse self.now.below.parts.depth (form.Level (suc ternary_level)) cursor.old) (λ z. pure (e.Ternary (places.span (places.place head.test) (places.place z)) head.test head.first z))) result cursor.new }
     {
-        let second = self.below.level(cursor, TERNARY_LEVEL + 1)?;
-        Ok(ternary_of(self.below.alloc, head.test, head.first, second)?)
+        let second = self.below.parts.level(cursor, TERNARY_LEVEL + 1)?;
+        Ok(ternary_of(self.below.parts.alloc, head.test, head.first, second)?)
     }
 
     /// Behind the first branch of `? :`.
     #[tactic(auto, unfolding(hph_fexpr::specs::Climb::other_branch))]
     fn other_branch(&self, cursor: &mut Cursor<'_>, head: Head) -> Result<Boxed<Expr>, ParseFault>
-        requires { Nests self.now.below.depth (F.pre self.now.below.nested) (F.post self.now.below.nested) }
-        ensures { Reads (spec.other_branch (parse self.now.below.depth) head.test head.first cursor.old) result cursor.new }
+        requires { Nests self.now.below.parts.depth (F.pre self.now.below.parts.nested) (F.post self.now.below.parts.nested) }
+        ensures { Reads (spec.other_branch (parse self.now.below.parts.depth) head.test head.first cursor.old) result cursor.new }
     {
         cursor.expect(Mark::Colon)?;
         self.last_branch(cursor, head)
@@ -96,10 +101,10 @@ impl<F: Fn(Global, &mut Cursor<'_>, usize, Form) -> Result<Boxed<Expr>, ParseFau
     /// Behind `?`.
     #[tactic(auto, unfolding(hph_fexpr::specs::Climb::ternary))]
     fn ternary(&self, cursor: &mut Cursor<'_>, test: Boxed<Expr>) -> Result<Boxed<Expr>, ParseFault>
-        requires { Nests self.now.below.depth (F.pre self.now.below.nested) (F.post self.now.below.nested) }
-        ensures { Reads (spec.ternary (parse self.now.below.depth) test cursor.old) result cursor.new }
+        requires { Nests self.now.below.parts.depth (F.pre self.now.below.parts.nested) (F.post self.now.below.parts.nested) }
+        ensures { Reads (spec.ternary (parse self.now.below.parts.depth) test cursor.old) result cursor.new }
     {
-        let first = self.below.level(cursor, 1)?;
+        let first = self.below.parts.level(cursor, 1)?;
         self.other_branch(cursor, Head { test, first })
     }
 
@@ -110,8 +115,8 @@ impl<F: Fn(Global, &mut Cursor<'_>, usize, Form) -> Result<Boxed<Expr>, ParseFau
         cursor: &mut Cursor<'_>,
         test: Boxed<Expr>,
     ) -> Result<Boxed<Expr>, ParseFault>
-        requires { Nests self.now.below.depth (F.pre self.now.below.nested) (F.post self.now.below.nested) }
-        ensures { Reads (spec.questioned (parse self.now.below.depth) test cursor.old) result cursor.new }
+        requires { Nests self.now.below.parts.depth (F.pre self.now.below.parts.nested) (F.post self.now.below.parts.nested) }
+        ensures { Reads (spec.questioned (parse self.now.below.parts.depth) test cursor.old) result cursor.new }
     {
         cursor.take()?;
         if cursor.sees(Mark::Colon) {

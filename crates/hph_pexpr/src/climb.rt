@@ -1,7 +1,7 @@
 //! Binary operators, level by level: PHP manual, Operator Precedence.
 
 ghost use Rattle.hph_cursor.specs.Reads.{Reads, ReadsAs};
-ghost use Rattle.hph_postfix.specs.Nests.{Nests, passes};
+ghost use Rattle.hph_enclosed.specs.Nests.{Nests, passes};
 ghost use Rattle.hph_fexpr.specs.Parser.{parse};
 ghost use Rattle.std.specs.Prelude.{◌<◌, [], length};
 ghost use Rattle.hph_ast.specs.Levels as levels;
@@ -25,17 +25,17 @@ impl<F: Fn(Global, &mut Cursor<'_>, usize, Form) -> Result<Boxed<Expr>, ParseFau
         cursor: &mut Cursor<'_>,
         level: u8,
     ) -> Result<Items<(Binary, Expr)>, ParseFault>
-        requires nests { Nests self.now.below.depth (F.pre self.now.below.nested) (F.post self.now.below.nested) }
+        requires nests { Nests self.now.below.parts.depth (F.pre self.now.below.parts.nested) (F.post self.now.below.parts.nested) }
         requires small { level < 23 }
-        ensures { Reads (spec.operands_from (parse self.now.below.depth) level (length cursor.old) [] cursor.old) result cursor.new }
+        ensures { Reads (spec.operands_from (parse self.now.below.parts.depth) level (length cursor.old) [] cursor.old) result cursor.new }
     {
-        let mut found = Items::new(self.below.alloc);
+        let mut found = Items::new(self.below.parts.alloc);
         for _turn in 0..cursor.left() {
             let Some(operator) = cursor.operator(level) else {
                 return Ok(found);
             };
             cursor.take()?;
-            let operand = self.below.level(cursor, level + 1)?;
+            let operand = self.below.parts.level(cursor, level + 1)?;
             found.push((operator, operand.into_inner()))?;
         }
         Ok(found)
@@ -48,12 +48,12 @@ impl<F: Fn(Global, &mut Cursor<'_>, usize, Form) -> Result<Boxed<Expr>, ParseFau
         level: u8,
         first: Boxed<Expr>,
     ) -> Result<Boxed<Expr>, ParseFault>
-        requires nests { Nests self.now.below.depth (F.pre self.now.below.nested) (F.post self.now.below.nested) }
+        requires nests { Nests self.now.below.parts.depth (F.pre self.now.below.parts.nested) (F.post self.now.below.parts.nested) }
         requires small { level < 23 }
-        ensures { Reads (spec.run (parse self.now.below.depth) level first cursor.old) result cursor.new }
+        ensures { Reads (spec.run (parse self.now.below.parts.depth) level first cursor.old) result cursor.new }
     {
         let found = self.operands(cursor, level)?;
-        Ok(run_of(self.below.alloc, first, found)?)
+        Ok(run_of(self.below.parts.alloc, first, found)?)
     }
 
     #[tactic(auto, unfolding(hph_fexpr::specs::Climb::pair))]
@@ -64,25 +64,25 @@ impl<F: Fn(Global, &mut Cursor<'_>, usize, Form) -> Result<Boxed<Expr>, ParseFau
         operator: Binary,
         level: u8,
     ) -> Result<Boxed<Expr>, ParseFault>
-        requires { Nests self.now.below.depth (F.pre self.now.below.nested) (F.post self.now.below.nested) }
-        ensures { Reads (spec.pair (parse self.now.below.depth) left operator level cursor.old) result cursor.new }
+        requires { Nests self.now.below.parts.depth (F.pre self.now.below.parts.nested) (F.post self.now.below.parts.nested) }
+        ensures { Reads (spec.pair (parse self.now.below.parts.depth) left operator level cursor.old) result cursor.new }
     {
         cursor.take()?;
-        let right = self.below.level(cursor, level)?;
-        Ok(pair_of(self.below.alloc, operator, left, right)?)
+        let right = self.below.parts.level(cursor, level)?;
+        Ok(pair_of(self.below.parts.alloc, operator, left, right)?)
     }
 
     fn classes(&self, cursor: &mut Cursor<'_>) -> Result<Items<ClassReference>, ParseFault>
-        requires { Nests self.now.below.depth (F.pre self.now.below.nested) (F.post self.now.below.nested) }
-        ensures { Reads (spec.classes_from (parse self.now.below.depth) (length cursor.old) [] cursor.old) result cursor.new }
+        requires { Nests self.now.below.parts.depth (F.pre self.now.below.parts.nested) (F.post self.now.below.parts.nested) }
+        ensures { Reads (spec.classes_from (parse self.now.below.parts.depth) (length cursor.old) [] cursor.old) result cursor.new }
     {
-        let mut found = Items::new(self.below.alloc);
+        let mut found = Items::new(self.below.parts.alloc);
         for _turn in 0..cursor.left() {
             if !cursor.sees_instance_of() {
                 return Ok(found);
             }
             cursor.take()?;
-            found.push(self.below.class_reference(cursor)?)?;
+            found.push(self.below.parts.class_reference(cursor)?.into_inner())?;
         }
         Ok(found)
     }
@@ -94,11 +94,11 @@ impl<F: Fn(Global, &mut Cursor<'_>, usize, Form) -> Result<Boxed<Expr>, ParseFau
         cursor: &mut Cursor<'_>,
         subject: Boxed<Expr>,
     ) -> Result<Boxed<Expr>, ParseFault>
-        requires { Nests self.now.below.depth (F.pre self.now.below.nested) (F.post self.now.below.nested) }
-        ensures { Reads (spec.instances (parse self.now.below.depth) subject cursor.old) result cursor.new }
+        requires { Nests self.now.below.parts.depth (F.pre self.now.below.parts.nested) (F.post self.now.below.parts.nested) }
+        ensures { Reads (spec.instances (parse self.now.below.parts.depth) subject cursor.old) result cursor.new }
     {
         let found = self.classes(cursor)?;
-        Ok(instance_of_of(self.below.alloc, subject, found)?)
+        Ok(instance_of_of(self.below.parts.alloc, subject, found)?)
     }
 
     /// An expression goes on with operators of a level.
@@ -109,9 +109,9 @@ impl<F: Fn(Global, &mut Cursor<'_>, usize, Form) -> Result<Boxed<Expr>, ParseFau
         level: u8,
         left: Boxed<Expr>,
     ) -> Result<Boxed<Expr>, ParseFault>
-        requires nests { Nests self.now.below.depth (F.pre self.now.below.nested) (F.post self.now.below.nested) }
+        requires nests { Nests self.now.below.parts.depth (F.pre self.now.below.parts.nested) (F.post self.now.below.parts.nested) }
         requires small { level < 23 }
-        ensures { Reads (spec.longer (parse self.now.below.depth) level left cursor.old) result cursor.new }
+        ensures { Reads (spec.longer (parse self.now.below.parts.depth) level left cursor.old) result cursor.new }
     {
         let Some(operator) = cursor.binary() else {
             if cursor.sees(Mark::Question) {
@@ -136,8 +136,8 @@ impl<F: Fn(Global, &mut Cursor<'_>, usize, Form) -> Result<Boxed<Expr>, ParseFau
         least: u8,
         mut found: Boxed<Expr>,
     ) -> Result<Boxed<Expr>, ParseFault>
-        requires { Nests self.now.below.depth (F.pre self.now.below.nested) (F.post self.now.below.nested) }
-        ensures { Reads (spec.climb (parse self.now.below.depth) least levels.top found cursor.old) result cursor.new }
+        requires { Nests self.now.below.parts.depth (F.pre self.now.below.parts.nested) (F.post self.now.below.parts.nested) }
+        ensures { Reads (spec.climb (parse self.now.below.parts.depth) least levels.top found cursor.old) result cursor.new }
     {
         let mut level = TOP;
         while level > least {
@@ -156,8 +156,8 @@ impl<F: Fn(Global, &mut Cursor<'_>, usize, Form) -> Result<Boxed<Expr>, ParseFau
     /// An expression of a level, whose parts nest one deeper.
     #[tactic(auto, unfolding(hph_fexpr::specs::Climb::one_level))]
     pub fn one_level(&self, cursor: &mut Cursor<'_>, least: u8) -> Result<Boxed<Expr>, ParseFault>
-        requires { Nests self.now.below.depth (F.pre self.now.below.nested) (F.post self.now.below.nested) }
-        ensures { Reads (spec.one_level (parse self.now.below.depth) least cursor.old) result cursor.new }
+        requires { Nests self.now.below.parts.depth (F.pre self.now.below.parts.nested) (F.post self.now.below.parts.nested) }
+        ensures { Reads (spec.one_level (parse self.now.below.parts.depth) self.now.below.parts.depth least cursor.old) result cursor.new }
     {
         let found = self.term(cursor)?;
         self.climb(cursor, least, found)

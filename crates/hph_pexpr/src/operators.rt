@@ -1,7 +1,7 @@
-use hph_postfix::Grammar;
+use hph_postfix::Chains;
 
 /// The rules for operators, over those for what is read without operators.
 #[derive(Clone, Copy)]
 pub struct Operators<F> {
-    pub below: Grammar<F>,
+    pub below: Chains<F>,
 }

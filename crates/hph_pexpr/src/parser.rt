@@ -3,22 +3,23 @@
 ghost use Rattle.hph_cursor.specs.Reads.{Reads};
 ghost use Rattle.hph_fexpr.specs.Arrays as arrays;
 ghost use Rattle.hph_fexpr.specs.Lists as lists;
-ghost use Rattle.hph_postfix.specs.Nests.{Nests, passes};
+ghost use Rattle.hph_enclosed.specs.Nests.{Nests, passes};
 ghost use Rattle.hph_fexpr.specs.Parser as spec;
 ghost use Rattle.hph_fexpr.specs.Parser.{parse};
 
 use crate::operators::Operators;
 use hph_ast::{At, Expr, Mark};
 use hph_cursor::{Cursor, ParseFault};
+use hph_enclosed::{Grammar, PathTest};
 use hph_fexpr::{Elements, Form};
-use hph_postfix::{Grammar, PathTest};
+use hph_postfix::Chains;
 use sqlite_items::{Boxed, Items};
 use std::alloc::Global;
 
 impl<F: Fn(Global, &mut Cursor<'_>, usize, Form) -> Result<Boxed<Expr>, ParseFault>> Operators<F> {
     fn one_form(&self, cursor: &mut Cursor<'_>, form: Form) -> Result<Boxed<Expr>, ParseFault>
-        requires { Nests self.now.below.depth (F.pre self.now.below.nested) (F.post self.now.below.nested) }
-        ensures { Reads (spec.one_form (parse self.now.below.depth) form cursor.old) result cursor.new }
+        requires { Nests self.now.below.parts.depth (F.pre self.now.below.parts.nested) (F.post self.now.below.parts.nested) }
+        ensures { Reads (spec.one_form self.now.below.parts.depth (parse self.now.below.parts.depth) form cursor.old) result cursor.new }
     {
         match form {
             Form::Level(least) => self.one_level(cursor, least),
@@ -39,11 +40,12 @@ pub fn nested(
     if depth == 0 {
         return Err(cursor.refuse());
     }
-    let below = Grammar {
+    let parts = Grammar {
         alloc,
         depth: depth - 1,
         nested,
     };
+    let below = Chains { parts };
     Operators { below }.one_form(cursor, form)
 }
 

@@ -7,9 +7,10 @@ ghost use Rattle.hph_fexpr.specs.Public.{SpellsAt, expr_at, ends, ends_kind};
 ghost use Rattle.hph_pexpr.specs.Results.{IsAnswer, Answers};
 
 use crate::parser::nested;
-use hph_ast::{Expr, Keyword, Kind, Mark, Token, expr_fits};
+use hph_ast::{Expr, Keyword, Kind, Mark, Token};
 use hph_cursor::{Cursor, ParseFault};
 use hph_fexpr::{Form, expressions_are_read};
+use hph_nest::expr_fits;
 use std::alloc::Global;
 
 const LIMIT: usize = 512;

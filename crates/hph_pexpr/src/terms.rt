@@ -1,7 +1,7 @@
 //! Terms: destructuring, prefix operators, and `++` and `--` before a path.
 
 ghost use Rattle.hph_cursor.specs.Reads.{Reads, ReadsAs};
-ghost use Rattle.hph_postfix.specs.Nests.{Nests, passes};
+ghost use Rattle.hph_enclosed.specs.Nests.{Nests, passes};
 ghost use Rattle.hph_fexpr.specs.Parser.{parse};
 ghost use Rattle.hph_fexpr.specs.Terms as spec;
 
@@ -21,26 +21,26 @@ pub const ASSIGN_LEVEL: u8 = 5;
 impl<F: Fn(Global, &mut Cursor<'_>, usize, Form) -> Result<Boxed<Expr>, ParseFault>> Operators<F> {
     #[tactic(auto, unfolding(hph_fexpr::specs::Terms::prefixed))]
     fn prefixed(&self, cursor: &mut Cursor<'_>, operator: Prefix) -> Result<Boxed<Expr>, ParseFault>
-        requires { Nests self.now.below.depth (F.pre self.now.below.nested) (F.post self.now.below.nested) }
-        ensures { Reads (spec.prefixed (parse self.now.below.depth) operator cursor.old) result cursor.new }
+        requires { Nests self.now.below.parts.depth (F.pre self.now.below.parts.nested) (F.post self.now.below.parts.nested) }
+        ensures { Reads (spec.prefixed self.now.below.parts.depth (parse self.now.below.parts.depth) operator cursor.old) result cursor.new }
     {
         let first = cursor.take()?;
-        let operand = self.below.level(cursor, prefix_level(operator) + 1)?;
-        Ok(prefix_of(self.below.alloc, on(first), operator, operand)?)
+        let operand = self.below.parts.level(cursor, prefix_level(operator) + 1)?;
+        Ok(prefix_of(self.below.parts.alloc, on(first), operator, operand)?)
     }
 
     /// `++` or `--` before a path.
     #[tactic(auto, unfolding(hph_fexpr::specs::Terms::pre_updated))]
     fn pre_updated(&self, cursor: &mut Cursor<'_>, form: Update) -> Result<Boxed<Expr>, ParseFault>
-        requires { Nests self.now.below.depth (F.pre self.now.below.nested) (F.post self.now.below.nested) }
-        ensures { Reads (spec.pre_updated (parse self.now.below.depth) form cursor.old) result cursor.new }
+        requires { Nests self.now.below.parts.depth (F.pre self.now.below.parts.nested) (F.post self.now.below.parts.nested) }
+        ensures { Reads (spec.pre_updated self.now.below.parts.depth (parse self.now.below.parts.depth) form cursor.old) result cursor.new }
     {
         let first = cursor.take()?;
         let path = self.below.postfix(cursor)?;
         if !is_written(path.get()) || cursor.binds() > UPDATE_LEVEL {
             return Err(cursor.refuse());
         }
-        Ok(pre_update_of(self.below.alloc, on(first), form, path)?)
+        Ok(pre_update_of(self.below.parts.alloc, on(first), form, path)?)
     }
 
     /// At `=`.
@@ -51,12 +51,12 @@ impl<F: Fn(Global, &mut Cursor<'_>, usize, Form) -> Result<Boxed<Expr>, ParseFau
         opening: &Token,
         found: Elements,
     ) -> Result<Boxed<Expr>, ParseFault>
-        requires { Nests self.now.below.depth (F.pre self.now.below.nested) (F.post self.now.below.nested) }
-        ensures { Reads (spec.destructured (parse self.now.below.depth) opening.now found cursor.old) result cursor.new }
+        requires { Nests self.now.below.parts.depth (F.pre self.now.below.parts.nested) (F.post self.now.below.parts.nested) }
+        ensures { Reads (spec.destructured self.now.below.parts.depth (parse self.now.below.parts.depth) opening.now found cursor.old) result cursor.new }
     {
         cursor.take()?;
-        let value = self.below.level(cursor, ASSIGN_LEVEL + 1)?;
-        Ok(destructure_of(self.below.alloc, on(opening), found.items, value)?)
+        let value = self.below.parts.level(cursor, ASSIGN_LEVEL + 1)?;
+        Ok(destructure_of(self.below.parts.alloc, on(opening), found.items, value)?)
     }
 
     #[tactic(auto, unfolding(hph_fexpr::specs::Terms::from_array))]
@@ -66,10 +66,16 @@ impl<F: Fn(Global, &mut Cursor<'_>, usize, Form) -> Result<Boxed<Expr>, ParseFau
         opening: &Token,
         found: Elements,
     ) -> Result<Boxed<Expr>, ParseFault>
-        requires { Nests self.now.below.depth (F.pre self.now.below.nested) (F.post self.now.below.nested) }
-        ensures { Reads (spec.from_array (parse self.now.below.depth) opening.now found cursor.old) result cursor.new }
+        requires { Nests self.now.below.parts.depth (F.pre self.now.below.parts.nested) (F.post self.now.below.parts.nested) }
+        ensures { Reads (spec.from_array self.now.below.parts.depth (parse self.now.below.parts.depth) opening.now found cursor.old) result cursor.new }
     {
-        let array = array_of(self.below.alloc, cursor, opening, ArrayForm::Short, found)?;
+        let array = array_of(
+            self.below.parts.alloc,
+            cursor,
+            opening,
+            ArrayForm::Short,
+            found,
+        )?;
         let path = self.below.goes_on(cursor, array)?;
         self.path_used(cursor, path)
     }
@@ -77,11 +83,11 @@ impl<F: Fn(Global, &mut Cursor<'_>, usize, Form) -> Result<Boxed<Expr>, ParseFau
     /// An array, or the left side of a destructuring.
     #[tactic(auto, unfolding(hph_fexpr::specs::Terms::bracketed))]
     fn bracketed(&self, cursor: &mut Cursor<'_>) -> Result<Boxed<Expr>, ParseFault>
-        requires { Nests self.now.below.depth (F.pre self.now.below.nested) (F.post self.now.below.nested) }
-        ensures { Reads (spec.bracketed (parse self.now.below.depth) cursor.old) result cursor.new }
+        requires { Nests self.now.below.parts.depth (F.pre self.now.below.parts.nested) (F.post self.now.below.parts.nested) }
+        ensures { Reads (spec.bracketed self.now.below.parts.depth (parse self.now.below.parts.depth) cursor.old) result cursor.new }
     {
         let opening = cursor.take()?;
-        let found = self.below.elements(cursor, Mark::CloseBracket)?;
+        let found = self.below.parts.elements(cursor, Mark::CloseBracket)?;
         if cursor.sees_set() {
             self.destructured(cursor, opening, found)
         } else {
@@ -90,8 +96,8 @@ impl<F: Fn(Global, &mut Cursor<'_>, usize, Form) -> Result<Boxed<Expr>, ParseFau
     }
 
     fn operand(&self, cursor: &mut Cursor<'_>) -> Result<Boxed<Expr>, ParseFault>
-        requires { Nests self.now.below.depth (F.pre self.now.below.nested) (F.post self.now.below.nested) }
-        ensures { Reads (spec.operand (parse self.now.below.depth) cursor.old) result cursor.new }
+        requires { Nests self.now.below.parts.depth (F.pre self.now.below.parts.nested) (F.post self.now.below.parts.nested) }
+        ensures { Reads (spec.operand self.now.below.parts.depth (parse self.now.below.parts.depth) cursor.old) result cursor.new }
     {
         if cursor.sees(Mark::OpenBracket) {
             return self.bracketed(cursor);
@@ -103,8 +109,8 @@ impl<F: Fn(Global, &mut Cursor<'_>, usize, Form) -> Result<Boxed<Expr>, ParseFau
     /// What may stand at either side of an operator.
     #[tactic(auto, unfolding(hph_fexpr::specs::Terms::term))]
     pub fn term(&self, cursor: &mut Cursor<'_>) -> Result<Boxed<Expr>, ParseFault>
-        requires { Nests self.now.below.depth (F.pre self.now.below.nested) (F.post self.now.below.nested) }
-        ensures { Reads (spec.term (parse self.now.below.depth) cursor.old) result cursor.new }
+        requires { Nests self.now.below.parts.depth (F.pre self.now.below.parts.nested) (F.post self.now.below.parts.nested) }
+        ensures { Reads (spec.term self.now.below.parts.depth (parse self.now.below.parts.depth) cursor.old) result cursor.new }
     {
         if let Some(operator) = cursor.prefix() {
             return self.prefixed(cursor, operator);

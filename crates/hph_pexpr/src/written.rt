@@ -1,7 +1,7 @@
 //! What is done with a path: it is read, assigned to, bound to another, or updated by `++` or `--` behind it.
 
 ghost use Rattle.hph_cursor.specs.Reads.{Reads, ReadsAs};
-ghost use Rattle.hph_postfix.specs.Nests.{Nests};
+ghost use Rattle.hph_enclosed.specs.Nests.{Nests};
 ghost use Rattle.hph_fexpr.specs.Parser.{parse};
 ghost use Rattle.std.specs.Prelude.{suc, Some, None, if◌then◌else◌};
 ghost use Rattle.hph_ast.specs.declared.expr.Expr.TheVariants as e;
@@ -38,11 +38,11 @@ impl<F: Fn(Global, &mut Cursor<'_>, usize, Form) -> Result<Boxed<Expr>, ParseFau
         path: Boxed<Expr>,
         form: Update,
     ) -> Result<Boxed<Expr>, ParseFault>
-        requires { Nests self.now.below.depth (F.pre self.now.below.nested) (F.post self.now.below.nested) }
-        ensures { Reads (spec.post_updated (parse self.now.below.depth) path form cursor.old) result cursor.new }
+        requires { Nests self.now.below.parts.depth (F.pre self.now.below.parts.nested) (F.post self.now.below.parts.nested) }
+        ensures { Reads (spec.post_updated self.now.below.parts.depth (parse self.now.below.parts.depth) path form cursor.old) result cursor.new }
     {
         let last = cursor.take()?;
-        Ok(post_update_of(self.below.alloc, path, form, on(last))?)
+        Ok(post_update_of(self.below.parts.alloc, path, form, on(last))?)
     }
 
     /// Behind the path that is bound, which is to be a source.
@@ -58,14 +58,14 @@ impl<F: Fn(Global, &mut Cursor<'_>, usize, Form) -> Result<Boxed<Expr>, ParseFau
         if !is_source(source.get()) || cursor.binds() > ASSIGN_LEVEL {
             return Err(cursor.refuse());
         }
-        Ok(assign_reference_of(self.below.alloc, target, source, ampersand)?)
+        Ok(assign_reference_of(self.below.parts.alloc, target, source, ampersand)?)
     }
 
     /// Behind `=`, at `&`.
     #[tactic(auto, unfolding(hph_fexpr::specs::Terms::bound))]
     fn bound(&self, cursor: &mut Cursor<'_>, target: Boxed<Expr>) -> Result<Boxed<Expr>, ParseFault>
-        requires { Nests self.now.below.depth (F.pre self.now.below.nested) (F.post self.now.below.nested) }
-        ensures { Reads (spec.bound (parse self.now.below.depth) target cursor.old) result cursor.new }
+        requires { Nests self.now.below.parts.depth (F.pre self.now.below.parts.nested) (F.post self.now.below.parts.nested) }
+        ensures { Reads (spec.bound self.now.below.parts.depth (parse self.now.below.parts.depth) target cursor.old) result cursor.new }
     {
         let ampersand = cursor.take()?;
         let source = self.below.postfix(cursor)?;
@@ -79,11 +79,11 @@ impl<F: Fn(Global, &mut Cursor<'_>, usize, Form) -> Result<Boxed<Expr>, ParseFau
         target: Boxed<Expr>,
         operator: Assignment,
     ) -> Result<Boxed<Expr>, ParseFault>
-        requires { Nests self.now.below.depth (F.pre self.now.below.nested) (F.post self.now.below.nested) }
-        ensures { Reads (spec.valued_by (parse self.now.below.depth) target operator cursor.old) result cursor.new }
+        requires { Nests self.now.below.parts.depth (F.pre self.now.below.parts.nested) (F.post self.now.below.parts.nested) }
+        ensures { Reads (spec.valued_by self.now.below.parts.depth (parse self.now.below.parts.depth) target operator cursor.old) result cursor.new }
     {
-        let value = self.below.level(cursor, ASSIGN_LEVEL + 1)?;
-        Ok(assign_of(self.below.alloc, operator, target, value)?)
+        let value = self.below.parts.level(cursor, ASSIGN_LEVEL + 1)?;
+        Ok(assign_of(self.below.parts.alloc, operator, target, value)?)
     }
 
     /// At an assignment operator.
@@ -94,8 +94,8 @@ impl<F: Fn(Global, &mut Cursor<'_>, usize, Form) -> Result<Boxed<Expr>, ParseFau
         target: Boxed<Expr>,
         operator: Assignment,
     ) -> Result<Boxed<Expr>, ParseFault>
-        requires { Nests self.now.below.depth (F.pre self.now.below.nested) (F.post self.now.below.nested) }
-        ensures { Reads (spec.assigned (parse self.now.below.depth) target operator cursor.old) result cursor.new }
+        requires { Nests self.now.below.parts.depth (F.pre self.now.below.parts.nested) (F.post self.now.below.parts.nested) }
+        ensures { Reads (spec.assigned self.now.below.parts.depth (parse self.now.below.parts.depth) target operator cursor.old) result cursor.new }
     {
         cursor.take()?;
         if is_set(operator) && cursor.sees_ampersand() {
@@ -112,8 +112,8 @@ impl<F: Fn(Global, &mut Cursor<'_>, usize, Form) -> Result<Boxed<Expr>, ParseFau
         path: Boxed<Expr>,
         form: Update,
     ) -> Result<Boxed<Expr>, ParseFault>
-        requires { Nests self.now.below.depth (F.pre self.now.below.nested) (F.post self.now.below.nested) }
-        ensures { Reads (if is_written path then spec.post_updated (parse self.now.below.depth) path form cursor.old else None) result cursor.new }
+        requires { Nests self.now.below.parts.depth (F.pre self.now.below.parts.nested) (F.post self.now.below.parts.nested) }
+        ensures { Reads (if is_written path then spec.post_updated self.now.below.parts.depth (parse self.now.below.parts.depth) path form cursor.old else None) result cursor.new }
     {
         if !is_written(path.get()) {
             return Err(cursor.refuse());
@@ -128,8 +128,8 @@ impl<F: Fn(Global, &mut Cursor<'_>, usize, Form) -> Result<Boxed<Expr>, ParseFau
         path: Boxed<Expr>,
         operator: Assignment,
     ) -> Result<Boxed<Expr>, ParseFault>
-        requires { Nests self.now.below.depth (F.pre self.now.below.nested) (F.post self.now.below.nested) }
-        ensures { Reads (if is_written path then spec.assigned (parse self.now.below.depth) path operator cursor.old else None) result cursor.new }
+        requires { Nests self.now.below.parts.depth (F.pre self.now.below.parts.nested) (F.post self.now.below.parts.nested) }
+        ensures { Reads (if is_written path then spec.assigned self.now.below.parts.depth (parse self.now.below.parts.depth) path operator cursor.old else None) result cursor.new }
     {
         if !is_written(path.get()) {
             return Err(cursor.refuse());
@@ -144,8 +144,8 @@ impl<F: Fn(Global, &mut Cursor<'_>, usize, Form) -> Result<Boxed<Expr>, ParseFau
         cursor: &mut Cursor<'_>,
         path: Boxed<Expr>,
     ) -> Result<Boxed<Expr>, ParseFault>
-        requires { Nests self.now.below.depth (F.pre self.now.below.nested) (F.post self.now.below.nested) }
-        ensures { Reads (spec.path_used (parse self.now.below.depth) path cursor.old) result cursor.new }
+        requires { Nests self.now.below.parts.depth (F.pre self.now.below.parts.nested) (F.post self.now.below.parts.nested) }
+        ensures { Reads (spec.path_used self.now.below.parts.depth (parse self.now.below.parts.depth) path cursor.old) result cursor.new }
     {
         if let Some(form) = cursor.post_update() {
             return self.updated(cursor, path, form);

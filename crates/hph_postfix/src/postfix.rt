@@ -1,12 +1,12 @@
 //! Steps, calls and members behind a primary.
 
 ghost use Rattle.hph_cursor.specs.Reads.{Reads, ReadsAs};
-ghost use Rattle.hph_postfix.specs.Nests.{Nests, passes};
+ghost use Rattle.hph_enclosed.specs.Nests.{Nests, passes};
 ghost use Rattle.hph_fexpr.specs.Parser.{parse};
 ghost use Rattle.std.specs.Prelude.{Some, None};
 ghost use Rattle.hph_fexpr.specs.Postfix as spec;
 
-use crate::grammar::Grammar;
+use crate::chains::Chains;
 use hph_ast::{Expr, Mark, MemberName, Step, Token};
 use hph_cursor::nodes::{by_expression, dynamic_call_of, method_call_of, with_steps};
 use hph_cursor::{Cursor, ParseFault, is_callable, is_class_expression, is_read, on, span};
@@ -14,12 +14,12 @@ use hph_fexpr::{Form, Turn};
 use sqlite_items::{Boxed, Items};
 use std::alloc::Global;
 
-impl<F: Fn(Global, &mut Cursor<'_>, usize, Form) -> Result<Boxed<Expr>, ParseFault>> Grammar<F> {
+impl<F: Fn(Global, &mut Cursor<'_>, usize, Form) -> Result<Boxed<Expr>, ParseFault>> Chains<F> {
     /// Behind `[`.
     #[tactic(auto, unfolding(hph_fexpr::specs::Postfix::index))]
     fn index(&self, cursor: &mut Cursor<'_>, opening: &Token) -> Result<Step, ParseFault>
-        requires { Nests self.now.depth (F.pre self.now.nested) (F.post self.now.nested) }
-        ensures { Reads (spec.index (parse self.now.depth) opening.now cursor.old) result cursor.new }
+        requires { Nests self.now.parts.depth (F.pre self.now.parts.nested) (F.post self.now.parts.nested) }
+        ensures { Reads (spec.index (parse self.now.parts.depth) opening.now cursor.old) result cursor.new }
     {
         if cursor.sees(Mark::CloseBracket) {
             let close = cursor.take()?;
@@ -27,7 +27,7 @@ impl<F: Fn(Global, &mut Cursor<'_>, usize, Form) -> Result<Boxed<Expr>, ParseFau
                 at: span(on(opening), on(close)),
             });
         }
-        let key = self.level(cursor, 1)?;
+        let key = self.parts.level(cursor, 1)?;
         let close = cursor.expect(Mark::CloseBracket)?;
         Ok(Step::Index {
             at: span(on(opening), on(close)),
@@ -39,18 +39,18 @@ impl<F: Fn(Global, &mut Cursor<'_>, usize, Form) -> Result<Boxed<Expr>, ParseFau
     fn steps(
         &self,
         cursor: &mut Cursor<'_>,
-    ) -> Result<(Items<Step>, Option<MemberName>), ParseFault>
-        requires { Nests self.now.depth (F.pre self.now.nested) (F.post self.now.nested) }
-        ensures { Reads (spec.steps (parse self.now.depth) cursor.old) result cursor.new }
+    ) -> Result<(Items<Step>, Option<Boxed<MemberName>>), ParseFault>
+        requires { Nests self.now.parts.depth (F.pre self.now.parts.nested) (F.post self.now.parts.nested) }
+        ensures { Reads (spec.steps (parse self.now.parts.depth) cursor.old) result cursor.new }
     {
-        let mut found = Items::new(self.alloc);
+        let mut found = Items::new(self.parts.alloc);
         for _turn in 0..cursor.left() {
             if cursor.sees(Mark::OpenBracket) {
                 let opening = cursor.take()?;
                 found.push(self.index(cursor, opening)?)?;
             } else if cursor.sees(Mark::Arrow) {
                 let arrow = cursor.take()?;
-                let (name, last) = self.member(cursor)?;
+                let (name, last) = self.parts.member(cursor)?;
                 if cursor.sees(Mark::OpenParen) {
                     return Ok((found, Some(name)));
                 }
@@ -71,14 +71,14 @@ impl<F: Fn(Global, &mut Cursor<'_>, usize, Form) -> Result<Boxed<Expr>, ParseFau
         &self,
         cursor: &mut Cursor<'_>,
         object: Boxed<Expr>,
-        name: MemberName,
+        name: Boxed<MemberName>,
     ) -> Result<Boxed<Expr>, ParseFault>
-        requires { Nests self.now.depth (F.pre self.now.nested) (F.post self.now.nested) }
-        ensures { Reads (spec.method_call (parse self.now.depth) object name cursor.old) result cursor.new }
+        requires { Nests self.now.parts.depth (F.pre self.now.parts.nested) (F.post self.now.parts.nested) }
+        ensures { Reads (spec.method_call (parse self.now.parts.depth) object name cursor.old) result cursor.new }
     {
         cursor.take()?;
-        let (arguments, last) = self.arguments(cursor)?;
-        Ok(method_call_of(self.alloc, object, name, arguments, last)?)
+        let (arguments, last) = self.parts.arguments(cursor)?;
+        Ok(method_call_of(self.parts.alloc, object, name, arguments, last)?)
     }
 
     /// At `(`.
@@ -88,12 +88,12 @@ impl<F: Fn(Global, &mut Cursor<'_>, usize, Form) -> Result<Boxed<Expr>, ParseFau
         cursor: &mut Cursor<'_>,
         callee: Boxed<Expr>,
     ) -> Result<Boxed<Expr>, ParseFault>
-        requires { Nests self.now.depth (F.pre self.now.nested) (F.post self.now.nested) }
-        ensures { Reads (spec.dynamic_call (parse self.now.depth) callee cursor.old) result cursor.new }
+        requires { Nests self.now.parts.depth (F.pre self.now.parts.nested) (F.post self.now.parts.nested) }
+        ensures { Reads (spec.dynamic_call (parse self.now.parts.depth) callee cursor.old) result cursor.new }
     {
         cursor.take()?;
-        let (arguments, last) = self.arguments(cursor)?;
-        Ok(dynamic_call_of(self.alloc, callee, arguments, last)?)
+        let (arguments, last) = self.parts.arguments(cursor)?;
+        Ok(dynamic_call_of(self.parts.alloc, callee, arguments, last)?)
     }
 
     #[tactic(auto, unfolding(hph_fexpr::specs::Postfix::turn))]
@@ -101,10 +101,10 @@ impl<F: Fn(Global, &mut Cursor<'_>, usize, Form) -> Result<Boxed<Expr>, ParseFau
         &self,
         cursor: &mut Cursor<'_>,
         object: Boxed<Expr>,
-        name: MemberName,
+        name: Boxed<MemberName>,
     ) -> Result<Turn, ParseFault>
-        requires { Nests self.now.depth (F.pre self.now.nested) (F.post self.now.nested) }
-        ensures { Reads (spec.turn (parse self.now.depth) object (Some name) cursor.old) result cursor.new }
+        requires { Nests self.now.parts.depth (F.pre self.now.parts.nested) (F.post self.now.parts.nested) }
+        ensures { Reads (spec.turn (parse self.now.parts.depth) object (Some name) cursor.old) result cursor.new }
     {
         if !is_read(object.get()) {
             return Err(cursor.refuse());
@@ -114,8 +114,8 @@ impl<F: Fn(Global, &mut Cursor<'_>, usize, Form) -> Result<Boxed<Expr>, ParseFau
 
     #[tactic(auto, unfolding(hph_fexpr::specs::Postfix::turn))]
     fn call_turn(&self, cursor: &mut Cursor<'_>, found: Boxed<Expr>) -> Result<Turn, ParseFault>
-        requires { Nests self.now.depth (F.pre self.now.nested) (F.post self.now.nested) }
-        ensures { Reads (spec.turn (parse self.now.depth) found None cursor.old) result cursor.new }
+        requires { Nests self.now.parts.depth (F.pre self.now.parts.nested) (F.post self.now.parts.nested) }
+        ensures { Reads (spec.turn (parse self.now.parts.depth) found None cursor.old) result cursor.new }
     {
         if cursor.sees(Mark::OpenParen) && (is_read(found.get()) && is_callable(found.get())) {
             return Ok(Turn::Longer(self.dynamic_call(cursor, found)?));
@@ -123,7 +123,7 @@ impl<F: Fn(Global, &mut Cursor<'_>, usize, Form) -> Result<Boxed<Expr>, ParseFau
         if cursor.sees(Mark::DoubleColon)
             && (is_read(found.get()) && is_class_expression(found.get()))
         {
-            let class = by_expression(found);
+            let class = Boxed::new(self.parts.alloc, by_expression(found))?;
             return Ok(Turn::Longer(self.scoped(cursor, class)?));
         }
         Ok(Turn::Whole(found))
@@ -134,10 +134,10 @@ impl<F: Fn(Global, &mut Cursor<'_>, usize, Form) -> Result<Boxed<Expr>, ParseFau
         &self,
         cursor: &mut Cursor<'_>,
         found: Boxed<Expr>,
-        method: Option<MemberName>,
+        method: Option<Boxed<MemberName>>,
     ) -> Result<Turn, ParseFault>
-        requires { Nests self.now.depth (F.pre self.now.nested) (F.post self.now.nested) }
-        ensures { Reads (spec.turn (parse self.now.depth) found method cursor.old) result cursor.new }
+        requires { Nests self.now.parts.depth (F.pre self.now.parts.nested) (F.post self.now.parts.nested) }
+        ensures { Reads (spec.turn (parse self.now.parts.depth) found method cursor.old) result cursor.new }
     {
         match method {
             Some(name) => self.method_turn(cursor, found, name),
@@ -147,37 +147,53 @@ impl<F: Fn(Global, &mut Cursor<'_>, usize, Form) -> Result<Boxed<Expr>, ParseFau
 
     #[tactic(auto, unfolding(hph_fexpr::specs::Postfix::one_turn))]
     fn one_turn(&self, cursor: &mut Cursor<'_>, found: Boxed<Expr>) -> Result<Turn, ParseFault>
-        requires { Nests self.now.depth (F.pre self.now.nested) (F.post self.now.nested) }
-        ensures { Reads (spec.one_turn (parse self.now.depth) found cursor.old) result cursor.new }
+        requires { Nests self.now.parts.depth (F.pre self.now.parts.nested) (F.post self.now.parts.nested) }
+        ensures { Reads (spec.one_turn (parse self.now.parts.depth) found cursor.old) result cursor.new }
     {
         let (steps, method) = self.steps(cursor)?;
-        let found = with_steps(self.alloc, found, steps)?;
+        let found = with_steps(self.parts.alloc, found, steps)?;
         self.turn(cursor, found, method)
     }
 
-    /// Steps, calls and members, as long as there are any.
+    /// Steps behind as many calls and members as may nest.
+    #[tactic(auto, unfolding(hph_fexpr::specs::Postfix::goes_on_from))]
+    fn last_turn(
+        &self,
+        cursor: &mut Cursor<'_>,
+        found: Boxed<Expr>,
+    ) -> Result<Boxed<Expr>, ParseFault>
+        requires { Nests self.now.parts.depth (F.pre self.now.parts.nested) (F.post self.now.parts.nested) }
+        ensures { Reads (spec.goes_on_from (parse self.now.parts.depth) 1 found cursor.old) result cursor.new }
+    {
+        match self.one_turn(cursor, found)? {
+            Turn::Longer(_) => Err(cursor.refuse()),
+            Turn::Whole(whole) => Ok(whole),
+        }
+    }
+
+    /// Steps, calls and members, as long as there are any, of which no more may stand in a row than parts may nest.
     pub fn goes_on(
         &self,
         cursor: &mut Cursor<'_>,
         mut found: Boxed<Expr>,
     ) -> Result<Boxed<Expr>, ParseFault>
-        requires { Nests self.now.depth (F.pre self.now.nested) (F.post self.now.nested) }
-        ensures { Reads (spec.goes_on (parse self.now.depth) found cursor.old) result cursor.new }
+        requires { Nests self.now.parts.depth (F.pre self.now.parts.nested) (F.post self.now.parts.nested) }
+        ensures { Reads (spec.goes_on (parse self.now.parts.depth) self.now.parts.depth found cursor.old) result cursor.new }
     {
-        for _turn in 0..cursor.left() {
+        for _turn in 0..self.parts.depth {
             match self.one_turn(cursor, found)? {
                 Turn::Longer(longer) => found = longer,
                 Turn::Whole(whole) => return Ok(whole),
             }
         }
-        Ok(found)
+        self.last_turn(cursor, found)
     }
 
     /// An expression without operators.
     #[tactic(auto, unfolding(hph_fexpr::specs::Postfix::postfix))]
     pub fn postfix(&self, cursor: &mut Cursor<'_>) -> Result<Boxed<Expr>, ParseFault>
-        requires { Nests self.now.depth (F.pre self.now.nested) (F.post self.now.nested) }
-        ensures { Reads (spec.postfix (parse self.now.depth) cursor.old) result cursor.new }
+        requires { Nests self.now.parts.depth (F.pre self.now.parts.nested) (F.post self.now.parts.nested) }
+        ensures { Reads (spec.postfix (parse self.now.parts.depth) self.now.parts.depth cursor.old) result cursor.new }
     {
         let found = self.primary(cursor)?;
         self.goes_on(cursor, found)

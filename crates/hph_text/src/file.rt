@@ -79,8 +79,8 @@ fn start(statement: &Statement) -> u32
     ensures { result ≡ statement_start (out-Statement statement.now) }
 {
     match statement {
-        Statement::Function { function } => function.at.start,
-        Statement::Class { class } => class.at.start,
+        Statement::Function { function } => function.get().at.start,
+        Statement::Class { class } => class.get().at.start,
         Statement::Empty { at }
         | Statement::InlineText { at, .. }
         | Statement::Block { at, .. }

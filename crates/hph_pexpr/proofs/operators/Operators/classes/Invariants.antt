@@ -4,4 +4,4 @@ use Rattle.hph_fexpr.specs.Parser.{parse}
 use Rattle.hph_pexpr.proofs.operators.Operators.classes.Given as goal
 
 abbrev pub invariant-loop-turn : goal.invariant-loop-turn
-invariant-loop-turn g l = spec.classes_from (parse l.self.below.depth) (length l.fn.cursor) [] l.fn.cursor ≡ spec.classes_from (parse l.self.below.depth) (l._turn-end - l._turn) l.found l.cursor
+invariant-loop-turn g l = spec.classes_from (parse l.self.below.parts.depth) (length l.fn.cursor) [] l.fn.cursor ≡ spec.classes_from (parse l.self.below.parts.depth) (l._turn-end - l._turn) l.found l.cursor

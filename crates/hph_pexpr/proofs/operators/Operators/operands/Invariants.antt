@@ -4,4 +4,4 @@ use Rattle.hph_fexpr.specs.Parser.{parse}
 use Rattle.hph_pexpr.proofs.operators.Operators.operands.Given as goal
 
 abbrev pub invariant-loop-turn : goal.invariant-loop-turn
-invariant-loop-turn g l = spec.operands_from (parse l.self.below.depth) l.level (length l.fn.cursor) [] l.fn.cursor ≡ spec.operands_from (parse l.self.below.depth) l.level (l._turn-end - l._turn) l.found l.cursor
+invariant-loop-turn g l = spec.operands_from (parse l.self.below.parts.depth) l.level (length l.fn.cursor) [] l.fn.cursor ≡ spec.operands_from (parse l.self.below.parts.depth) l.level (l._turn-end - l._turn) l.found l.cursor

@@ -1,0 +1,42 @@
+use Rattle.std.proofs.Common.{rules, arith}
+use Rattle.std.proofs.lemmas.Grind.{common_steps}
+use Rattle.hph_fexpr.specs.Strings as spec
+use Rattle.hph_fexpr.specs.Parser.{parse}
+use Rattle.hph_cursor.proofs.Turns.{one_more, no_more}
+use Rattle.hph_enclosed.proofs.grammar.Grammar.parts.Goals as goal
+
+pub returns-in_err-value : goal.returns-in_err-value
+unfolding spec.parts_from
+returns-in_err-value g c =
+    let e = one_more (λ n. spec.parts_from (parse c.args.self.now.depth) n c.loop-turn.found c.loop-turn.cursor) _ c.loop-turn._turn c.loop-turn-test.true c.loop-turn.invariant in
+    first_of (search rules, grind (arith, common_steps))
+
+pub returns-in_err-token : goal.returns-in_err-token
+unfolding spec.parts_from
+returns-in_err-token g c =
+    let e = one_more (λ n. spec.parts_from (parse c.args.self.now.depth) n c.loop-turn.found c.loop-turn.cursor) _ c.loop-turn._turn c.loop-turn-test.true c.loop-turn.invariant in
+    first_of (search rules, grind (arith, common_steps))
+
+pub returns-in-TextTail : goal.returns-in-TextTail
+unfolding spec.parts_from
+returns-in-TextTail g c =
+    let e = one_more (λ n. spec.parts_from (parse c.args.self.now.depth) n c.loop-turn.found c.loop-turn.cursor) _ c.loop-turn._turn c.loop-turn-test.true c.loop-turn.invariant in
+    first_of (search rules, grind (arith, common_steps))
+
+pub returns-in_default : goal.returns-in_default
+unfolding spec.parts_from
+returns-in_default g c =
+    let e = one_more (λ n. spec.parts_from (parse c.args.self.now.depth) n c.loop-turn.found c.loop-turn.cursor) _ c.loop-turn._turn c.loop-turn-test.true c.loop-turn.invariant in
+    first_of (search rules, grind (arith, common_steps))
+
+pub loop-turn-preserved : goal.loop-turn-preserved
+unfolding spec.parts_from
+loop-turn-preserved g c =
+    let e = one_more (λ n. spec.parts_from (parse c.args.self.now.depth) n c.loop-turn.found c.loop-turn.cursor) _ c.loop-turn._turn c.loop-turn-test.true c.loop-turn.invariant in
+    first_of (search rules, grind (arith, common_steps))
+
+pub returns : goal.returns
+unfolding spec.parts_from
+returns g c =
+    let e = no_more (λ n. spec.parts_from (parse c.args.self.now.depth) n c.loop-turn.found c.loop-turn.cursor) _ c.loop-turn._turn c.loop-turn-test.false c.loop-turn.invariant in
+    first_of (search rules, grind (arith, common_steps))
