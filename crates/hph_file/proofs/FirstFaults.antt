@@ -10,7 +10,7 @@ use Rattle.hph_ast.specs.RefusedStatements.{tree_construct}
 use Rattle.hph_ast.specs.RefusedTokens.{token_construct}
 use Rattle.hph_ast.specs.StatementNesting.{SpellsTree}
 use Rattle.hph_ast.specs.Tokens.{SpellsTokens}
-use Rattle.hph_pstmt.specs.Public.{IsFirstDeep}
+use Rattle.hph_parse.specs.Public.{IsFirstDeep}
 use Rattle.hph_file.specs.declared.fault.FileFault.{FileFault}
 use Rattle.hph_file.specs.declared.fault.FileFault.TheVariants as fault
 use Rattle.hph_file.specs.Answers.{IsFirst}

@@ -8,7 +8,7 @@ use crate::fault::FileFault;
 use hph_accept::{token_construct, tree_construct};
 use hph_ast::{FileTree, Token};
 use hph_lex::LexFault;
-use hph_pstmt::{TreeFault, parse};
+use hph_parse::{TreeFault, parse};
 use std::alloc::Global;
 
 /// The tree of a file's bytes; or the file's first fault, as `FileFault` says. Memory may run out at any file.

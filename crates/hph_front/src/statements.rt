@@ -1,7 +1,7 @@
 //! Files as words with blanks between, and what they spell.
 
 use hph_ast::{Assignment, Binary, FileTree, Keyword, Kind, Mark, Statement, Token};
-use hph_pstmt::{TreeFault, parse};
+use hph_parse::{TreeFault, parse};
 use sqlite_items::Items;
 use std::alloc::Global;
 use std::test::Fail;

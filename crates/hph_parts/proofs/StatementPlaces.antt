@@ -12,7 +12,8 @@ use Rattle.hph_ast.specs.declared.stmt.Case.{Case}
 use Rattle.hph_ast.specs.declared.stmt.ElseIf.{ElseIf}
 use Rattle.hph_ast.specs.declared.stmt.ForeachTarget.{ForeachTarget}
 use Rattle.hph_ast.specs.declared.stmt.StaticVariable.{StaticVariable}
-use denote.Hole.Carrier.{out}
+use denote.Hole.Carrier.{out, shown, hidden}
+use Rattle.hph_ast.specs.declared.class.Member.TheBlock.{shown-the_row-Function-1, shown-the_row-Class-3}
 use Rattle.hph_ast.specs.Statements.{statement_place, function_place, class_place}
 
 pub place-Empty : (at : At) → statement_place (s.Empty at) ≡ at
@@ -88,11 +89,11 @@ unfolding out-Statement out
 place-Const at items = refl
 
 pub place-Function : (f : Function) → statement_place (s.Function f) ≡ function_place f
-unfolding out-Statement out
+unfolding out-Statement out shown-the_row-Function-1 shown hidden
 place-Function f = refl
 
 pub place-Class : (c : Class) → statement_place (s.Class c) ≡ class_place c
-unfolding out-Statement out
+unfolding out-Statement out shown-the_row-Class-3 shown hidden
 place-Class c = refl
 
 pub ruleset statement_places = (place-Empty, place-InlineText, place-Block, place-Expression, place-If, place-While, place-DoWhile, place-For, place-Foreach, place-Switch, place-Break, place-Continue, place-Return, place-Echo, place-Global, place-Static, place-Unset, place-Const, place-Function, place-Class)

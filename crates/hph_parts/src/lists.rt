@@ -1,6 +1,5 @@
 //! Lists with commas between.
 
-ghost use Rattle.std.specs.Prelude.{[], length};
 ghost use Rattle.hph_ast.specs.declared.token.Mark.TheVariants.{Semicolon};
 ghost use Rattle.hph_cursor.specs.Reads.{Reads, ReadsAs};
 ghost use Rattle.hph_fexpr.specs.declared.form.Form.TheVariants.{Level};
@@ -15,8 +14,27 @@ use crate::parts::Parts;
 use crate::words::variable;
 use hph_ast::{ConstantItem, Expr, Identifier, Mark, PropertyItem, StaticVariable, Token};
 use hph_cursor::{Cursor, ParseFault};
+use hph_repeats::{Rule, separated};
 use sqlite_items::Items;
 use std::alloc::Global;
+
+/// The rule of a variable.
+#[derive(Clone, Copy)]
+struct VariableRule {
+    alloc: Global,
+}
+
+impl Rule for VariableRule {
+    type Node = Identifier;
+
+    ghost can_read = { λ _. Unit {0} };
+
+    ghost grammar = { λ _. words.variable };
+
+    fn read(&self, cursor: &mut Cursor<'_>) -> Result<Identifier, ParseFault> {
+        variable(self.alloc, cursor)
+    }
+}
 
 /// Variables up to `;`, and the token that closes.
 pub fn variables<'a>(
@@ -25,16 +43,80 @@ pub fn variables<'a>(
 ) -> Result<(Items<Identifier>, &'a Token), ParseFault>
     ensures { ReadsAs (λ r. (r.0, r.1.now)) (separated words.variable Semicolon cursor.old) result cursor.new }
 {
-    let mut found = Items::new(alloc);
-    for _turn in 0..cursor.left() {
-        found.push(variable(alloc, cursor)?)?;
-        if !cursor.sees(Mark::Comma) {
-            let close = cursor.expect(Mark::Semicolon)?;
-            return Ok((found, close));
-        }
-        cursor.take()?;
+    separated(alloc, &VariableRule { alloc }, cursor, Mark::Semicolon)
+}
+
+/// The rule of an expression with all its operators.
+#[derive(Drop)]
+struct ExprRule<'a, E> {
+    parts: &'a Parts<E>,
+}
+
+impl<E: Expressions> Rule for ExprRule<'_, E> {
+    type Node = Expr;
+
+    ghost can_read = { λ _. Unit {0} };
+
+    ghost grammar = { λ _. spec.expressions (Level 1) };
+
+    fn read(&self, cursor: &mut Cursor<'_>) -> Result<Expr, ParseFault> {
+        let found = self.parts.expr(cursor)?;
+        Ok(found.into_inner())
     }
-    Err(cursor.refuse())
+}
+
+/// The rule of a static variable.
+#[derive(Drop)]
+struct StaticVariableRule<'a, E> {
+    parts: &'a Parts<E>,
+}
+
+impl<E: Expressions> Rule for StaticVariableRule<'_, E> {
+    type Node = StaticVariable;
+
+    ghost can_read = { λ _. Unit {0} };
+
+    ghost grammar = { λ _. declarations.static_variable spec.expressions };
+
+    fn read(&self, cursor: &mut Cursor<'_>) -> Result<StaticVariable, ParseFault> {
+        self.parts.static_variable(cursor)
+    }
+}
+
+/// The rule of a property.
+#[derive(Drop)]
+struct PropertyRule<'a, E> {
+    parts: &'a Parts<E>,
+}
+
+impl<E: Expressions> Rule for PropertyRule<'_, E> {
+    type Node = PropertyItem;
+
+    ghost can_read = { λ _. Unit {0} };
+
+    ghost grammar = { λ _. declarations.property_item spec.expressions };
+
+    fn read(&self, cursor: &mut Cursor<'_>) -> Result<PropertyItem, ParseFault> {
+        self.parts.property_item(cursor)
+    }
+}
+
+/// The rule of a constant.
+#[derive(Drop)]
+struct ConstantRule<'a, E> {
+    parts: &'a Parts<E>,
+}
+
+impl<E: Expressions> Rule for ConstantRule<'_, E> {
+    type Node = ConstantItem;
+
+    ghost can_read = { λ _. Unit {0} };
+
+    ghost grammar = { λ _. declarations.constant_item spec.expressions };
+
+    fn read(&self, cursor: &mut Cursor<'_>) -> Result<ConstantItem, ParseFault> {
+        self.parts.constant_item(cursor)
+    }
 }
 
 impl<E: Expressions> Parts<E> {
@@ -46,16 +128,7 @@ impl<E: Expressions> Parts<E> {
     ) -> Result<(Items<Expr>, &'a Token), ParseFault>
         ensures { ReadsAs (λ r. (r.0, r.1.now)) (separated (spec.expressions (Level 1)) closing cursor.old) result cursor.new }
     {
-        let mut found = Items::new(self.alloc);
-        for _turn in 0..cursor.left() {
-            found.push(self.expr(cursor)?.into_inner())?;
-            if !cursor.sees(Mark::Comma) {
-                let close = cursor.expect(closing)?;
-                return Ok((found, close));
-            }
-            cursor.take()?;
-        }
-        Err(cursor.refuse())
+        separated(self.alloc, &ExprRule { parts: self }, cursor, closing)
     }
 
     /// Static variables up to `;`, and the token that closes.
@@ -65,16 +138,8 @@ impl<E: Expressions> Parts<E> {
     ) -> Result<(Items<StaticVariable>, &'a Token), ParseFault>
         ensures { ReadsAs (λ r. (r.0, r.1.now)) (separated (declarations.static_variable spec.expressions) Semicolon cursor.old) result cursor.new }
     {
-        let mut found = Items::new(self.alloc);
-        for _turn in 0..cursor.left() {
-            found.push(self.static_variable(cursor)?)?;
-            if !cursor.sees(Mark::Comma) {
-                let close = cursor.expect(Mark::Semicolon)?;
-                return Ok((found, close));
-            }
-            cursor.take()?;
-        }
-        Err(cursor.refuse())
+        let rule = StaticVariableRule { parts: self };
+        separated(self.alloc, &rule, cursor, Mark::Semicolon)
     }
 
     /// Properties up to `;`, and the token that closes.
@@ -84,16 +149,8 @@ impl<E: Expressions> Parts<E> {
     ) -> Result<(Items<PropertyItem>, &'a Token), ParseFault>
         ensures { ReadsAs (λ r. (r.0, r.1.now)) (separated (declarations.property_item spec.expressions) Semicolon cursor.old) result cursor.new }
     {
-        let mut found = Items::new(self.alloc);
-        for _turn in 0..cursor.left() {
-            found.push(self.property_item(cursor)?)?;
-            if !cursor.sees(Mark::Comma) {
-                let close = cursor.expect(Mark::Semicolon)?;
-                return Ok((found, close));
-            }
-            cursor.take()?;
-        }
-        Err(cursor.refuse())
+        let rule = PropertyRule { parts: self };
+        separated(self.alloc, &rule, cursor, Mark::Semicolon)
     }
 
     /// Constants up to `;`, and the token that closes.
@@ -103,16 +160,8 @@ impl<E: Expressions> Parts<E> {
     ) -> Result<(Items<ConstantItem>, &'a Token), ParseFault>
         ensures { ReadsAs (λ r. (r.0, r.1.now)) (separated (declarations.constant_item spec.expressions) Semicolon cursor.old) result cursor.new }
     {
-        let mut found = Items::new(self.alloc);
-        for _turn in 0..cursor.left() {
-            found.push(self.constant_item(cursor)?)?;
-            if !cursor.sees(Mark::Comma) {
-                let close = cursor.expect(Mark::Semicolon)?;
-                return Ok((found, close));
-            }
-            cursor.take()?;
-        }
-        Err(cursor.refuse())
+        let rule = ConstantRule { parts: self };
+        separated(self.alloc, &rule, cursor, Mark::Semicolon)
     }
 
     /// Expressions, or none, up to a mark.

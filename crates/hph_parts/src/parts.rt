@@ -55,7 +55,11 @@ impl<E: Expressions> Parts<E> {
 
     /// An initial value if there is one, and where it ends, or the place given.
     #[tactic(auto, unfolding(hph_fstmt::specs::Declarations::initial))]
-    pub fn initial(&self, cursor: &mut Cursor<'_>, at: At) -> Result<(Option<Expr>, At), ParseFault>
+    pub fn initial(
+        &self,
+        cursor: &mut Cursor<'_>,
+        at: At,
+    ) -> Result<(Option<Boxed<Expr>>, At), ParseFault>
         ensures { Reads (declarations.initial spec.expressions at cursor.old) result cursor.new }
     {
         if !cursor.sees_set() {
@@ -64,7 +68,7 @@ impl<E: Expressions> Parts<E> {
         cursor.take()?;
         let value = self.constant(cursor)?;
         let last = place(value.get());
-        Ok((Some(value.into_inner()), last))
+        Ok((Some(value), last))
     }
 
     #[tactic(auto, unfolding(hph_fstmt::specs::Declarations::static_variable))]
@@ -92,9 +96,6 @@ impl<E: Expressions> Parts<E> {
         let name = name(self.alloc, cursor)?;
         expect_set(cursor)?;
         let value = self.constant(cursor)?;
-        Ok(ConstantItem {
-            name,
-            value: value.into_inner(),
-        })
+        Ok(ConstantItem { name, value })
     }
 }

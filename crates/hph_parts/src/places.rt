@@ -27,8 +27,8 @@ pub fn statement_place(statement: &Statement) -> At
     ensures { result ≡ places.statement_place statement.now }
 {
     match statement {
-        Statement::Function { function } => function_place(function),
-        Statement::Class { class } => class_place(class),
+        Statement::Function { function } => function_place(function.get()),
+        Statement::Class { class } => class_place(class.get()),
         Statement::Empty { at }
         | Statement::InlineText { at, .. }
         | Statement::Block { at, .. }
@@ -66,7 +66,7 @@ fn last_branch(first: At, branches: &[ElseIf]) -> At
 {
     let mut last = first;
     for branch in branches {
-        last = statement_place(&branch.body);
+        last = statement_place(branch.body.get());
     }
     last
 }

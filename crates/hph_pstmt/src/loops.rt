@@ -1,6 +1,6 @@
 //! Loops (PHP manual, while, do-while, for, foreach).
 
-ghost use Rattle.std.specs.Prelude.{IfOk, ◌≡◌};
+ghost use Rattle.std.specs.Prelude.{◌≡◌};
 ghost use Rattle.hph_ast.specs.Places as places;
 ghost use Rattle.hph_ast.specs.Statements as grammar;
 ghost use Rattle.hph_ast.specs.declared.stmt.Statement.TheVariants as s;
@@ -8,33 +8,31 @@ ghost use Rattle.hph_cursor.specs.Reads.{Reads};
 ghost use Rattle.hph_cursor.specs.Steps.{and_then, take_token};
 ghost use Rattle.hph_fstmt.specs.Parser as spec;
 ghost use Rattle.hph_fstmt.specs.Statements as statements;
-ghost use Rattle.hph_pstmt.specs.Nests.{Nests};
+ghost use Rattle.hph_declare.specs.Nests.{Nests};
 
-use crate::grammar::Grammar;
+use crate::control::Control;
 use hph_ast::{Expr, ForeachTarget, Identifier, Keyword, Mark, Statement, Token};
 use hph_cursor::{Cursor, ParseFault, on, span};
 use hph_parts::Expressions;
-use hph_parts::foreach::foreach_key;
 use hph_parts::places::statement_place;
 use hph_parts::words::expect_keyword;
+use hph_simple::foreach::{foreach_key, foreach_target};
 use sqlite_items::{Boxed, Items};
-use std::alloc::{AllocError, Global};
+use std::alloc::Global;
 
 fn while_of(
-    alloc: Global,
     token: &Token,
     test: Boxed<Expr>,
-    body: Statement,
-) -> Result<Statement, AllocError>
-    ensures { IfOk result (λ r. r ≡ s.While (places.span (places.on token.now) (grammar.statement_place body)) test body) }
+    body: Boxed<Statement>,
+) -> Statement
+    ensures { result ≡ s.While (places.span (places.on token.now) (grammar.statement_place body)) test body }
 {
-    let at = span(on(token), statement_place(&body));
-    let body = Boxed::new(alloc, body)?;
-    Ok(Statement::While {
+    let at = span(on(token), statement_place(body.get()));
+    Statement::While {
         at,
-        test: test.into_inner(),
+        test,
         body,
-    })
+    }
 }
 
 /// The three lists of a `for`.
@@ -46,23 +44,21 @@ pub struct ForHead {
 }
 
 fn for_of(
-    alloc: Global,
     token: &Token,
     head: ForHead,
-    body: Statement,
-) -> Result<Statement, AllocError>
-    ensures { IfOk result (λ r. r ≡ s.For (places.span (places.on token.now) (grammar.statement_place body)) head.init head.test head.step body) }
+    body: Boxed<Statement>,
+) -> Statement
+    ensures { result ≡ s.For (places.span (places.on token.now) (grammar.statement_place body)) head.init head.test head.step body }
 {
-    let at = span(on(token), statement_place(&body));
-    let body = Boxed::new(alloc, body)?;
+    let at = span(on(token), statement_place(body.get()));
     let ForHead { init, test, step } = head;
-    Ok(Statement::For {
+    Statement::For {
         at,
         init,
         test,
         step,
         body,
-    })
+    }
 }
 
 /// What a `foreach` goes over, and what a turn sets.
@@ -74,60 +70,58 @@ pub struct ForeachHead {
 }
 
 fn foreach_of(
-    alloc: Global,
     token: &Token,
     head: ForeachHead,
-    body: Statement,
-) -> Result<Statement, AllocError>
-    ensures { IfOk result (λ r. r ≡ s.Foreach (places.span (places.on token.now) (grammar.statement_place body)) head.subject head.key head.value body) }
+    body: Boxed<Statement>,
+) -> Statement
+    ensures { result ≡ s.Foreach (places.span (places.on token.now) (grammar.statement_place body)) head.subject head.key head.value body }
 {
-    let at = span(on(token), statement_place(&body));
-    let body = Boxed::new(alloc, body)?;
+    let at = span(on(token), statement_place(body.get()));
     let ForeachHead {
         subject,
         key,
         value,
     } = head;
-    Ok(Statement::Foreach {
+    Statement::Foreach {
         at,
-        subject: subject.into_inner(),
+        subject,
         key,
         value,
         body,
-    })
+    }
 }
 
 impl<
     E: Expressions + Copy,
     S: Fn(Global, E, &mut Cursor<'_>, usize) -> Result<Statement, ParseFault>,
-> Grammar<E, S> {
+> Control<E, S> {
     /// At `while`.
     #[tactic(auto, unfolding(hph_fstmt::specs::Statements::while_))]
     pub fn while_loop(&self, cursor: &mut Cursor<'_>) -> Result<Statement, ParseFault>
-        requires { Nests self.now.depth (S.pre self.now.statement) (S.post self.now.statement) }
-        ensures { Reads (and_then (take_token cursor.old) (statements.while_ spec.expressions (spec.nested self.now.depth))) result cursor.new }
+        requires { Nests self.now.grammar.depth (S.pre self.now.grammar.statement) (S.post self.now.grammar.statement) }
+        ensures { Reads (and_then (take_token cursor.old) (statements.while_ spec.expressions (spec.nested self.now.grammar.depth))) result cursor.new }
     {
         let token = cursor.take()?;
-        let test = self.parts.test(cursor)?;
-        let body = self.nested(cursor)?;
-        Ok(while_of(self.parts.alloc, token, test, body)?)
+        let test = self.grammar.parts.test(cursor)?;
+        let body = self.grammar.nested(cursor)?;
+        Ok(while_of(token, test, body))
     }
 
     /// At `do`.
     #[tactic(auto, unfolding(hph_fstmt::specs::Statements::do_while))]
     pub fn do_while_loop(&self, cursor: &mut Cursor<'_>) -> Result<Statement, ParseFault>
-        requires { Nests self.now.depth (S.pre self.now.statement) (S.post self.now.statement) }
-        ensures { Reads (and_then (take_token cursor.old) (statements.do_while spec.expressions (spec.nested self.now.depth))) result cursor.new }
+        requires { Nests self.now.grammar.depth (S.pre self.now.grammar.statement) (S.post self.now.grammar.statement) }
+        ensures { Reads (and_then (take_token cursor.old) (statements.do_while spec.expressions (spec.nested self.now.grammar.depth))) result cursor.new }
     {
         let token = cursor.take()?;
-        let body = Boxed::new(self.parts.alloc, self.nested(cursor)?)?;
+        let body = self.grammar.nested(cursor)?;
         expect_keyword(cursor, Keyword::While)?;
-        let test = self.parts.test(cursor)?;
+        let test = self.grammar.parts.test(cursor)?;
         let close = cursor.expect(Mark::Semicolon)?;
         Ok(Statement::DoWhile {
             at: span(on(token), on(close)),
             body,
-            test: test.into_inner(),
+            test,
         })
     }
 
@@ -138,24 +132,24 @@ impl<
         token: &Token,
         head: ForHead,
     ) -> Result<Statement, ParseFault>
-        requires { Nests self.now.depth (S.pre self.now.statement) (S.post self.now.statement) }
-        ensures { Reads (statements.for_body spec.expressions (spec.nested self.now.depth) token.now head.init head.test head.step cursor.old) result cursor.new }
+        requires { Nests self.now.grammar.depth (S.pre self.now.grammar.statement) (S.post self.now.grammar.statement) }
+        ensures { Reads (statements.for_body spec.expressions (spec.nested self.now.grammar.depth) token.now head.init head.test head.step cursor.old) result cursor.new }
     {
-        let body = self.nested(cursor)?;
-        Ok(for_of(self.parts.alloc, token, head, body)?)
+        let body = self.grammar.nested(cursor)?;
+        Ok(for_of(token, head, body))
     }
 
     /// At `for`.
     #[tactic(auto, unfolding(hph_fstmt::specs::Statements::for_))]
     pub fn for_loop(&self, cursor: &mut Cursor<'_>) -> Result<Statement, ParseFault>
-        requires { Nests self.now.depth (S.pre self.now.statement) (S.post self.now.statement) }
-        ensures { Reads (and_then (take_token cursor.old) (statements.for_ spec.expressions (spec.nested self.now.depth))) result cursor.new }
+        requires { Nests self.now.grammar.depth (S.pre self.now.grammar.statement) (S.post self.now.grammar.statement) }
+        ensures { Reads (and_then (take_token cursor.old) (statements.for_ spec.expressions (spec.nested self.now.grammar.depth))) result cursor.new }
     {
         let token = cursor.take()?;
         cursor.expect(Mark::OpenParen)?;
-        let init = self.parts.maybe_exprs(cursor, Mark::Semicolon)?;
-        let test = self.parts.maybe_exprs(cursor, Mark::Semicolon)?;
-        let step = self.parts.maybe_exprs(cursor, Mark::CloseParen)?;
+        let init = self.grammar.parts.maybe_exprs(cursor, Mark::Semicolon)?;
+        let test = self.grammar.parts.maybe_exprs(cursor, Mark::Semicolon)?;
+        let step = self.grammar.parts.maybe_exprs(cursor, Mark::CloseParen)?;
         self.for_body(cursor, token, ForHead { init, test, step })
     }
 
@@ -166,11 +160,11 @@ impl<
         token: &Token,
         head: ForeachHead,
     ) -> Result<Statement, ParseFault>
-        requires { Nests self.now.depth (S.pre self.now.statement) (S.post self.now.statement) }
-        ensures { Reads (statements.foreach_body spec.expressions (spec.nested self.now.depth) token.now head.subject head.key head.value cursor.old) result cursor.new }
+        requires { Nests self.now.grammar.depth (S.pre self.now.grammar.statement) (S.post self.now.grammar.statement) }
+        ensures { Reads (statements.foreach_body spec.expressions (spec.nested self.now.grammar.depth) token.now head.subject head.key head.value cursor.old) result cursor.new }
     {
-        let body = self.nested(cursor)?;
-        Ok(foreach_of(self.parts.alloc, token, head, body)?)
+        let body = self.grammar.nested(cursor)?;
+        Ok(foreach_of(token, head, body))
     }
 
     /// Behind `as`.
@@ -181,11 +175,11 @@ impl<
         token: &Token,
         subject: Boxed<Expr>,
     ) -> Result<Statement, ParseFault>
-        requires { Nests self.now.depth (S.pre self.now.statement) (S.post self.now.statement) }
-        ensures { Reads (statements.foreach_as spec.expressions (spec.nested self.now.depth) token.now subject cursor.old) result cursor.new }
+        requires { Nests self.now.grammar.depth (S.pre self.now.grammar.statement) (S.post self.now.grammar.statement) }
+        ensures { Reads (statements.foreach_as spec.expressions (spec.nested self.now.grammar.depth) token.now subject cursor.old) result cursor.new }
     {
-        let key = foreach_key(self.parts.alloc, cursor)?;
-        let value = self.parts.foreach_target(cursor)?;
+        let key = foreach_key(self.grammar.parts.alloc, cursor)?;
+        let value = foreach_target(&self.grammar.parts, cursor)?;
         cursor.expect(Mark::CloseParen)?;
         self.foreach_body(
             cursor,
@@ -201,12 +195,12 @@ impl<
     /// At `foreach`.
     #[tactic(auto, unfolding(hph_fstmt::specs::Statements::foreach))]
     pub fn foreach_loop(&self, cursor: &mut Cursor<'_>) -> Result<Statement, ParseFault>
-        requires { Nests self.now.depth (S.pre self.now.statement) (S.post self.now.statement) }
-        ensures { Reads (and_then (take_token cursor.old) (statements.foreach spec.expressions (spec.nested self.now.depth))) result cursor.new }
+        requires { Nests self.now.grammar.depth (S.pre self.now.grammar.statement) (S.post self.now.grammar.statement) }
+        ensures { Reads (and_then (take_token cursor.old) (statements.foreach spec.expressions (spec.nested self.now.grammar.depth))) result cursor.new }
     {
         let token = cursor.take()?;
         cursor.expect(Mark::OpenParen)?;
-        let subject = self.parts.expr(cursor)?;
+        let subject = self.grammar.parts.expr(cursor)?;
         expect_keyword(cursor, Keyword::As)?;
         self.foreach_as(cursor, token, subject)
     }

@@ -5,36 +5,38 @@ ghost use Rattle.hph_ast.specs.declared.keyword.Keyword.TheVariants as w;
 ghost use Rattle.hph_cursor.specs.Reads.{Reads};
 ghost use Rattle.hph_fstmt.specs.Parser as spec;
 ghost use Rattle.hph_fstmt.specs.Statements as statements;
-ghost use Rattle.hph_pstmt.specs.Nests.{Nests};
+ghost use Rattle.hph_declare.specs.Nests.{Nests};
 
-use crate::grammar::Grammar;
+use crate::control::Control;
 use hph_ast::{Keyword, Kind, Mark, Statement};
 use hph_cursor::{Cursor, ParseFault};
-use hph_parts::simple::{
-    break_statement, continue_statement, empty, global_statement, inline_text,
-};
+use hph_declare::Grammar;
 use hph_parts::{Expressions, Parts};
+use hph_simple::simple::{
+    break_statement, const_statement, continue_statement, echo, empty, expression, global_statement,
+    inline_text, return_statement, static_or_expression, unset,
+};
 use std::alloc::Global;
 
 impl<
     E: Expressions + Copy,
     S: Fn(Global, E, &mut Cursor<'_>, usize) -> Result<Statement, ParseFault>,
-> Grammar<E, S> {
+> Control<E, S> {
     /// At `function`.
     fn function_statement(&self, cursor: &mut Cursor<'_>) -> Result<Statement, ParseFault>
-        requires { Nests self.now.depth (S.pre self.now.statement) (S.post self.now.statement) }
-        ensures { Reads (statements.keyword_by spec.expressions (spec.nested self.now.depth) false w.Function cursor.old) result cursor.new }
+        requires { Nests self.now.grammar.depth (S.pre self.now.grammar.statement) (S.post self.now.grammar.statement) }
+        ensures { Reads (statements.keyword_by spec.expressions (spec.nested self.now.grammar.depth) false w.Function cursor.old) result cursor.new }
     {
-        let function = self.function(cursor)?;
+        let function = self.grammar.function(cursor)?;
         Ok(Statement::Function { function })
     }
 
     /// At `class`.
     fn class_statement(&self, cursor: &mut Cursor<'_>) -> Result<Statement, ParseFault>
-        requires { Nests self.now.depth (S.pre self.now.statement) (S.post self.now.statement) }
-        ensures { Reads (statements.keyword_by spec.expressions (spec.nested self.now.depth) false w.Class cursor.old) result cursor.new }
+        requires { Nests self.now.grammar.depth (S.pre self.now.grammar.statement) (S.post self.now.grammar.statement) }
+        ensures { Reads (statements.keyword_by spec.expressions (spec.nested self.now.grammar.depth) false w.Class cursor.old) result cursor.new }
     {
-        let class = self.class(cursor)?;
+        let class = self.grammar.class(cursor)?;
         Ok(Statement::Class { class })
     }
 
@@ -45,8 +47,8 @@ impl<
         word: Keyword,
         top: bool,
     ) -> Result<Statement, ParseFault>
-        requires { Nests self.now.depth (S.pre self.now.statement) (S.post self.now.statement) }
-        ensures { Reads (statements.keyword_by spec.expressions (spec.nested self.now.depth) top word cursor.old) result cursor.new }
+        requires { Nests self.now.grammar.depth (S.pre self.now.grammar.statement) (S.post self.now.grammar.statement) }
+        ensures { Reads (statements.keyword_by spec.expressions (spec.nested self.now.grammar.depth) top word cursor.old) result cursor.new }
     {
         match word {
             Keyword::If => self.if_statement(cursor),
@@ -57,33 +59,33 @@ impl<
             Keyword::Switch => self.switch_statement(cursor),
             Keyword::Break => break_statement(cursor),
             Keyword::Continue => continue_statement(cursor),
-            Keyword::Return => self.parts.return_statement(cursor),
-            Keyword::Echo => self.parts.echo(cursor),
-            Keyword::Global => global_statement(self.parts.alloc, cursor),
-            Keyword::Static => self.parts.static_or_expression(cursor),
-            Keyword::Unset => self.parts.unset(cursor),
-            Keyword::Const if top => self.parts.const_statement(cursor),
+            Keyword::Return => return_statement(&self.grammar.parts, cursor),
+            Keyword::Echo => echo(&self.grammar.parts, cursor),
+            Keyword::Global => global_statement(self.grammar.parts.alloc, cursor),
+            Keyword::Static => static_or_expression(&self.grammar.parts, cursor),
+            Keyword::Unset => unset(&self.grammar.parts, cursor),
+            Keyword::Const if top => const_statement(&self.grammar.parts, cursor),
             Keyword::Const => Err(cursor.refuse()),
             Keyword::Function => self.function_statement(cursor),
             Keyword::Class => self.class_statement(cursor),
-            _ => self.parts.expression(cursor),
+            _ => expression(&self.grammar.parts, cursor),
         }
     }
 
     /// A statement, and whether it stands directly in a file.
     pub fn one_statement(&self, cursor: &mut Cursor<'_>, top: bool) -> Result<Statement, ParseFault>
-        requires { Nests self.now.depth (S.pre self.now.statement) (S.post self.now.statement) }
-        ensures { Reads (statements.one_statement spec.expressions (spec.nested self.now.depth) top cursor.old) result cursor.new }
+        requires { Nests self.now.grammar.depth (S.pre self.now.grammar.statement) (S.post self.now.grammar.statement) }
+        ensures { Reads (statements.one_statement spec.expressions (spec.nested self.now.grammar.depth) top cursor.old) result cursor.new }
     {
         let [token, ..] = cursor.rest() else {
             return Err(cursor.refuse());
         };
         match &token.kind {
             Kind::Mark(Mark::Semicolon) => empty(cursor),
-            Kind::InlineText(bytes) => inline_text(self.parts.alloc, cursor, bytes),
-            Kind::Mark(Mark::OpenBrace) => self.block(cursor),
+            Kind::InlineText(bytes) => inline_text(self.grammar.parts.alloc, cursor, bytes),
+            Kind::Mark(Mark::OpenBrace) => self.grammar.block(cursor),
             Kind::Keyword(word) => self.by_keyword(cursor, *word, top),
-            _ => self.parts.expression(cursor),
+            _ => expression(&self.grammar.parts, cursor),
         }
     }
 }
@@ -100,12 +102,12 @@ pub fn nested_statement<E: Expressions + Copy>(
     if depth == 0 {
         return Err(cursor.refuse());
     }
-    Grammar {
+    let grammar = Grammar {
         parts: Parts { alloc, expressions },
         depth: depth - 1,
         statement: nested_statement::<E>,
-    }
-    .one_statement(cursor, false)
+    };
+    Control { grammar }.one_statement(cursor, false)
 }
 
 /// A statement that stands directly in a file, and nests no deeper than `depth`.
@@ -120,10 +122,10 @@ pub fn file_statement<E: Expressions + Copy>(
     if depth == 0 {
         return Err(cursor.refuse());
     }
-    Grammar {
+    let grammar = Grammar {
         parts: Parts { alloc, expressions },
         depth: depth - 1,
         statement: nested_statement::<E>,
-    }
-    .one_statement(cursor, true)
+    };
+    Control { grammar }.one_statement(cursor, true)
 }

@@ -1,6 +1,6 @@
 use Rattle.std.proofs.Common.{◌≡◌, ap, sym, subst, ◌∙◌, Some, Err}
-use Rattle.hph_pstmt.specs.declared.error.TreeFault.TheVariants.{TooDeep}
-use Rattle.hph_pstmt.specs.Public.{IsAnswer}
+use Rattle.hph_parse.specs.declared.error.TreeFault.TheVariants.{TooDeep}
+use Rattle.hph_parse.specs.Public.{IsAnswer}
 use Rattle.hph_file.proofs.FirstFaults.{deep_offset}
 use Rattle.hph_file.proofs.reading.tree.Goals as goal
 

@@ -1,4 +1,0 @@
-use Rattle.hph_parts.proofs.modifiers.+modifiers_behind.Given as goal
-
-abbrev pub decreases-modifiers_behind : goal.decreases-modifiers_behind
-decreases-modifiers_behind l = l.left

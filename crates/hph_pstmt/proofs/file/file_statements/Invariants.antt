@@ -1,9 +1,0 @@
-use Rattle.std.proofs.Common.{◌≡◌, ◌-◌, length, []}
-use Rattle.hph_fstmt.specs.Repeats as repeats
-use Rattle.hph_fstmt.specs.Statements as statements
-use Rattle.hph_fstmt.specs.Parser as spec
-use Rattle.std.specs.Prelude.{true}
-use Rattle.hph_pstmt.proofs.file.file_statements.Given as goal
-
-abbrev pub invariant-loop-turn : goal.invariant-loop-turn
-invariant-loop-turn g l = repeats.many_from statements.ends_statements (spec.statement spec.expressions spec.deepest true) (length l.fn.cursor) [] l.fn.cursor ≡ repeats.many_from statements.ends_statements (spec.statement spec.expressions spec.deepest true) (l._turn-end - l._turn) l.found l.cursor
