@@ -8,7 +8,8 @@ use Rattle.hph_ast.specs.declared.stmt.Statement.{out-Statement, roll-Statement}
 use Rattle.hph_ast.specs.declared.class.Member.{out-Member, roll-Member}
 use Rattle.hph_php.specs.declared.fatal.Fatal.TheVariants as k
 use Rattle.hph_php.specs.Codes.{all_builtins}
-use Rattle.hph_php.specs.Answers.{Done, FatalError}
+use Rattle.hph_wasm.specs.Outcome.{Done, Stopped}
+use Rattle.hph_php.specs.Answers.{Fails}
 use Rattle.hph_facts.proofs.KnownStatements.{KnownStatement, KnownFunction, does, shows, gives, body, if_, declares}
 use Rattle.hph_facts.proofs.KnownPrograms.{program, EndsWith, one_file, function_code}
 use Rattle.hph_facts.proofs.Vocabulary.{int, var, constant, call, assign}
@@ -85,6 +86,6 @@ too_early =
     does (assign a.Set (var (codes "c")) (constant (codes "true"))) ∷
     if_ (var (codes "c")) (body (declares too_early_g ∷ [])) [] None ∷ []
 
-too_early_ends : (path : String Global) → EndsWith (program ((path, too_early) ∷ [])) 1 [] (FatalError k.UndefinedFunction)
+too_early_ends : (path : String Global) → EndsWith (program ((path, too_early) ∷ [])) 1 [] (Stopped (Fails k.UndefinedFunction))
 unfolding out roll out-Statement roll-Statement out-Member roll-Member digits all_builtins
 too_early_ends path = one_file path too_early (function_code too_early_g, tt) 1 refl refl

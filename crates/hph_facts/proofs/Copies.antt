@@ -7,7 +7,7 @@ use Rattle.hph_ast.specs.declared.operator.Assignment.TheVariants as a
 use Rattle.hph_ast.specs.declared.stmt.Statement.{out-Statement, roll-Statement}
 use Rattle.hph_ast.specs.declared.class.Member.{out-Member, roll-Member}
 use Rattle.hph_php.specs.Codes.{all_builtins}
-use Rattle.hph_php.specs.Answers.{Done}
+use Rattle.hph_wasm.specs.Outcome.{Done}
 use Rattle.hph_facts.proofs.KnownStatements.{KnownStatement, KnownFunction, does, shows, gives, declares}
 use Rattle.hph_facts.proofs.KnownPrograms.{program, EndsWith, one_file, function_code}
 use Rattle.hph_facts.proofs.Vocabulary.{int, var, array, call, along, assign, element, index, last}

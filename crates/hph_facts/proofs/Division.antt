@@ -9,7 +9,8 @@ use Rattle.hph_ast.specs.declared.stmt.Statement.{out-Statement, roll-Statement}
 use Rattle.hph_ast.specs.declared.class.Member.{out-Member, roll-Member}
 use Rattle.hph_php.specs.declared.fatal.Fatal.TheVariants as k
 use Rattle.hph_php.specs.Codes.{all_builtins}
-use Rattle.hph_php.specs.Answers.{Done, FatalError}
+use Rattle.hph_wasm.specs.Outcome.{Done, Stopped}
+use Rattle.hph_php.specs.Answers.{Fails}
 use Rattle.hph_facts.proofs.KnownStatements.{KnownStatement, shows}
 use Rattle.hph_facts.proofs.KnownPrograms.{program, EndsWith, one_file}
 use Rattle.hph_facts.proofs.Vocabulary.{int, prefix, run}
@@ -30,7 +31,7 @@ abbrev broken : List KnownStatement
 broken =
     shows (run (int 7) ((b.Div, int 2) ∷ []) ∷ []) ∷ []
 
-broken_ends : (path : String Global) → EndsWith (program ((path, broken) ∷ [])) 1 [] (FatalError k.Float)
+broken_ends : (path : String Global) → EndsWith (program ((path, broken) ∷ [])) 1 [] (Stopped (Fails k.Float))
 unfolding out roll out-Statement roll-Statement out-Member roll-Member digits all_builtins
 broken_ends path = one_file path broken tt 1 refl refl
 
@@ -40,6 +41,6 @@ abbrev by_zero : List KnownStatement
 by_zero =
     shows (run (int 1) ((b.Rem, int 0) ∷ []) ∷ []) ∷ []
 
-by_zero_ends : (path : String Global) → EndsWith (program ((path, by_zero) ∷ [])) 1 [] (FatalError k.DivZero)
+by_zero_ends : (path : String Global) → EndsWith (program ((path, by_zero) ∷ [])) 1 [] (Stopped (Fails k.DivZero))
 unfolding out roll out-Statement roll-Statement out-Member roll-Member digits all_builtins
 by_zero_ends path = one_file path by_zero tt 1 refl refl

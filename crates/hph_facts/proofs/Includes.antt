@@ -12,7 +12,8 @@ use Rattle.hph_ast.specs.declared.stmt.Statement.{out-Statement, roll-Statement}
 use Rattle.hph_ast.specs.declared.class.Member.{out-Member, roll-Member}
 use Rattle.hph_php.specs.declared.fatal.Fatal.TheVariants as k
 use Rattle.hph_php.specs.Codes.{all_builtins}
-use Rattle.hph_php.specs.Answers.{Done, FatalError}
+use Rattle.hph_wasm.specs.Outcome.{Done, Stopped}
+use Rattle.hph_php.specs.Answers.{Fails}
 use Rattle.hph_facts.proofs.KnownStatements.{KnownStatement, KnownFunction, does, shows, gives, body, for_, declares}
 use Rattle.hph_facts.proofs.KnownPrograms.{program, EndsWith, known_ends, function_code}
 use Rattle.hph_facts.proofs.Vocabulary.{int, text, var, call, update, prefix, pair, assign}
@@ -57,7 +58,7 @@ not_yet_b =
     declares included_h ∷ []
 
 not_yet_ends : (m b : String Global) (is_m : string_bytes m ≡ codes "m.php") (is_b : string_bytes b ≡ codes "b.php") →
-    EndsWith (program ((m, not_yet_m) ∷ (b, not_yet_b) ∷ [])) 1 [] (FatalError k.UndefinedFunction)
+    EndsWith (program ((m, not_yet_m) ∷ (b, not_yet_b) ∷ [])) 1 [] (Stopped (Fails k.UndefinedFunction))
 unfolding out roll out-Statement roll-Statement out-Member roll-Member digits all_builtins
 not_yet_ends m b is_m is_b = known_ends ((m, not_yet_m) ∷ (b, not_yet_b) ∷ []) (codes "m.php" ∷ codes "b.php" ∷ [])
     (λ i. is_m i ∷ is_b i ∷ []) (function_code included_h, tt) 1 refl refl

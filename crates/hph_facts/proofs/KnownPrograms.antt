@@ -6,48 +6,49 @@ use Rattle.std.proofs.Common.{ap, ◌∙◌, String, Global}
 use Rattle.hph_ast.specs.declared.expr.Expr.{Expr}
 use Rattle.hph_ast.specs.declared.program.File.{File}
 use Rattle.hph_ast.specs.declared.program.Program.{Program}
-use Rattle.hph_php.specs.Answers.{Means, End, bind, give}
+use Rattle.hph_wasm.specs.Outcome.{End, Outcome, More}
+use Rattle.hph_php.specs.Answers.{Means, Stop, bind, give}
 use Rattle.hph_php.specs.Values.{Value, Null}
 use Rattle.hph_php.specs.State.{Name}
 use Rattle.hph_php.specs.World.{World, Context}
-use Rattle.hph_php.specs.Statements.{block}
 use Rattle.hph_php.specs.Files.{entering, run_file}
-use Rattle.hph_php.specs.Declarations.{Declaration, a_body, a_value, initial_values, Placed, PlacedClass, Codes, codes_of, path_of, numbered_from, file_declarations, class_declaration, body_code, constant_codes, static_codes, initial_code}
-use Rattle.hph_php.specs.Run.{Routine, a_function, an_initial_value, initials, routine_in, in_body, in_value, each_initial, Meanings, meanings_of, run, seen, Seen, php}
+use Rattle.hph_php.specs.Declarations.{Declaration, a_body, a_value, initial_values, Placed, PlacedClass, Codes, codes_of, path_of, numbered_from, file_declarations, class_declaration, static_declaration, body_code, constant_codes, static_codes, initial_code}
+use Rattle.hph_php.specs.Run.{Routine, a_function, an_initial_value, initials, routine_in, in_body, in_class, each_initial, Meanings, meanings_of, run, outcome_of, php}
 use Rattle.hph_facts.proofs.KnownExpressions.{at0, KnownExpression}
 use Rattle.hph_facts.proofs.KnownStatements.{KnownStatement, KnownFunction, value_of, tree_of, statements, each_means, each_is, all_found, all_finds, function_tree, body_meaning, body_is, parameters_meaning, parameters_is}
 
 -- ---- code
 
-pub record KnownRoutine (p : Placed) : Type 0 where
+pub record KnownRoutine (program : Codes) (p : Placed) : Type 0 where
   pub means : Routine
-  pub is : routine_in p.site.file p.code ≡ means
+  pub is : routine_in program p.site.file p.code ≡ means
 
 -- what is known of each piece of code
-abbrev pub AllKnown : List Placed → Type 0
-AllKnown [] = Unit {0}
-AllKnown (p ∷ ps) = KnownRoutine p × AllKnown ps
+abbrev pub AllKnown : Codes → List Placed → Type 0
+AllKnown program [] = Unit {0}
+AllKnown program (p ∷ ps) = KnownRoutine program p × AllKnown program ps
 
-abbrev pub routines : (ps : List Placed) → AllKnown ps → List Routine
-routines [] known = []
-routines (p ∷ ps) known = known.0.means ∷ routines ps known.1
+abbrev pub routines : (program : Codes) (ps : List Placed) → AllKnown program ps → List Routine
+routines program [] known = []
+routines program (p ∷ ps) known = known.0.means ∷ routines program ps known.1
 
-routines_are : (ps : List Placed) (known : AllKnown ps) → map (λ (p : Placed). routine_in p.site.file p.code) ps ≡ routines ps known
-routines_are [] known = refl
-routines_are (p ∷ ps) known = λ i. known.0.is i ∷ routines_are ps known.1 i
+routines_are : (program : Codes) (ps : List Placed) (known : AllKnown program ps) →
+    map (λ (p : Placed). routine_in program p.site.file p.code) ps ≡ routines program ps known
+routines_are program [] known = refl
+routines_are program (p ∷ ps) known = λ i. known.0.is i ∷ routines_are program ps known.1 i
 
-abbrev pub function_code : {file offset : ℕ} (f : KnownFunction) {class : Option ℕ} {is_static : Bool} →
-    KnownRoutine (record { site = record { file = file; offset = offset }; code = a_body (function_tree f) class is_static })
-function_code {file} {offset} f {class} {is_static} = record {
-  means = a_function is_static (λ w. parameters_meaning f w (in_body file class)) (λ w. body_meaning f w (in_body file class));
-  is = λ i. a_function is_static (λ w. parameters_is w (in_body file class) f i) (λ w. body_is w (in_body file class) f i);
+abbrev pub function_code : {program : Codes} {file offset : ℕ} (f : KnownFunction) {class : Option ℕ} {is_static : Bool} →
+    KnownRoutine program (record { site = record { file = file; offset = offset }; code = a_body (function_tree f) class is_static })
+function_code {program} {file} {offset} f {class} {is_static} = record {
+  means = a_function (λ w. parameters_meaning f w (in_body program file class)) (λ w. body_meaning f w (in_body program file class));
+  is = λ i. a_function (λ w. parameters_is w (in_body program file class) f i) (λ w. body_is w (in_body program file class) f i);
 }
 
-abbrev pub value_code : {file offset : ℕ} (k : KnownExpression) {class : ℕ} →
-    KnownRoutine (record { site = record { file = file; offset = offset }; code = a_value k.tree class })
-value_code {file} {offset} k {class} = record {
-  means = an_initial_value (λ w. value_of w (in_value file class) k);
-  is = λ i. an_initial_value (λ w. (k.is w (in_value file class) i).value);
+abbrev pub value_code : {program : Codes} {file offset : ℕ} (k : KnownExpression) {class : ℕ} →
+    KnownRoutine program (record { site = record { file = file; offset = offset }; code = a_value k.tree class })
+value_code {program} {file} {offset} k {class} = record {
+  means = an_initial_value class (λ w. value_of w (in_class program file class) k);
+  is = λ i. an_initial_value class (λ w. (k.is w (in_class program file class) i).value);
 }
 
 -- initial values of the properties of objects
@@ -64,11 +65,11 @@ initial_is w c [] = refl
 initial_is w c ((name, None) ∷ ps) = λ i. bind (give Null) (λ v. bind (initial_is w c ps i) (λ rest. give ((name, v) ∷ rest)))
 initial_is w c ((name, Some k) ∷ ps) = λ i. bind (k.is w c i).value (λ v. bind (initial_is w c ps i) (λ rest. give ((name, v) ∷ rest)))
 
-abbrev pub initial_values_code : {file offset : ℕ} (ps : List (Name × Option KnownExpression)) {class : ℕ} →
-    KnownRoutine (record { site = record { file = file; offset = offset }; code = initial_values (initial_trees ps) class })
-initial_values_code {file} {offset} ps {class} = record {
-  means = initials (λ w. initial_meaning w (in_value file class) ps);
-  is = λ i. initials (λ w. initial_is w (in_value file class) ps i);
+abbrev pub initial_values_code : {program : Codes} {file offset : ℕ} (ps : List (Name × Option KnownExpression)) {class : ℕ} →
+    KnownRoutine program (record { site = record { file = file; offset = offset }; code = initial_values (initial_trees ps) class })
+initial_values_code {program} {file} {offset} ps {class} = record {
+  means = initials class (λ w. initial_meaning w (in_class program file class) ps);
+  is = λ i. initials class (λ w. initial_is w (in_class program file class) ps i);
 }
 
 -- ---- files
@@ -82,14 +83,14 @@ file f = record { path = f.0; bytes = []; tokens = []; tree = record { at = at0;
 abbrev pub program : List KnownFile → Program
 program fs = record { files = map file fs }
 
-abbrev pub file_meanings : ℕ → List KnownFile → List (World → Means (Unit {0}))
-file_meanings n [] = []
-file_meanings n (f ∷ fs) = (λ w. entering w n (statements f.1) (λ c. block (each_means w c f.1))) ∷ file_meanings (suc n) fs
+abbrev pub file_meanings : Codes → ℕ → List KnownFile → List (World → Means (Unit {0}))
+file_meanings p n [] = []
+file_meanings p n (f ∷ fs) = (λ w. entering p n (statements f.1) (λ c. each_means w c f.1)) ∷ file_meanings p (suc n) fs
 
-file_meanings_are : (n : ℕ) (fs : List KnownFile) →
-    map {B = World → Means (Unit {0})} (λ (f : ℕ × File). λ w. run_file w f.0 f.1) (numbered_from n (map file fs)) ≡ file_meanings n fs
-file_meanings_are n [] = refl
-file_meanings_are n (f ∷ fs) = λ i. (λ w. entering w n (statements f.1) (λ c. block (each_is w c f.1 i))) ∷ file_meanings_are (suc n) fs i
+file_meanings_are : (p : Codes) (n : ℕ) (fs : List KnownFile) →
+    map {B = World → Means (Unit {0})} (λ (f : ℕ × File). λ w. run_file p w f.0 f.1) (numbered_from n (map file fs)) ≡ file_meanings p n fs
+file_meanings_are p n [] = refl
+file_meanings_are p n (f ∷ fs) = λ i. (λ w. entering p n (statements f.1) (λ c. each_is w c f.1 i)) ∷ file_meanings_are p (suc n) fs i
 
 -- ---- declarations
 
@@ -114,6 +115,7 @@ codes_by paths ds = record {
       ++ (flat_map constant_codes (numbered_from 0 (classes_by ds))
       ++ (flat_map static_codes (numbered_from 0 (classes_by ds))
       ++ map initial_code (numbered_from 0 (classes_by ds))));
+  statics = filter_map static_declaration ds;
 }
 
 abbrev pub paths_of : List KnownFile → List (List ℕ)
@@ -129,35 +131,41 @@ known_codes fs paths = codes_by paths (declared_from 0 fs)
 codes_are : (fs : List KnownFile) (paths : List (List ℕ)) → paths_of fs ≡ paths → codes_of (program fs) ≡ known_codes fs paths
 codes_are fs paths same = (λ i. codes_by (paths_are fs i) (declared_are 0 fs i)) ∙ (λ i. codes_by (same i) (declared_from 0 fs))
 
-abbrev pub known_meanings : (fs : List KnownFile) (paths : List (List ℕ)) → AllKnown (known_codes fs paths).codes → Meanings
-known_meanings fs paths known = record { files = file_meanings 0 fs; routines = routines (known_codes fs paths).codes known }
+abbrev pub known_meanings : (fs : List KnownFile) (paths : List (List ℕ)) → AllKnown (known_codes fs paths) (known_codes fs paths).codes → Meanings
+known_meanings fs paths known = record {
+  files = file_meanings (known_codes fs paths) 0 fs;
+  routines = routines (known_codes fs paths) (known_codes fs paths).codes known;
+}
 
 -- what a program of known statements prints, where its code is known
-pub prints : (fs : List KnownFile) (paths : List (List ℕ)) → paths_of fs ≡ paths → (known : AllKnown (known_codes fs paths).codes) → (n : ℕ) →
-    php (program fs) n ≡ seen (run (known_codes fs paths) (known_meanings fs paths known) n)
+pub prints : (fs : List KnownFile) (paths : List (List ℕ)) → paths_of fs ≡ paths → (known : AllKnown (known_codes fs paths) (known_codes fs paths).codes) → (n : ℕ) →
+    php (program fs) n ≡ outcome_of (run (known_meanings fs paths known) n)
 prints fs paths same known n =
-    (λ i. seen (run (codes_are fs paths same i) (meanings_of (map file fs) (codes_are fs paths same i)) n))
-    ∙ (λ i. seen (run (known_codes fs paths) (record { files = file_meanings_are 0 fs i; routines = routines_are (known_codes fs paths).codes known i }) n))
+    (λ i. outcome_of (run (meanings_of (map file fs) (codes_are fs paths same i)) n))
+    ∙ (λ i. outcome_of (run (record {
+      files = file_meanings_are (known_codes fs paths) 0 fs i;
+      routines = routines_are (known_codes fs paths) (known_codes fs paths).codes known i;
+    }) n))
 
 -- a program ends with so many units, and with one less it lacks a unit
-pub record EndsWith (p : Program) (units : ℕ) (out : List ℕ) (end : End) : Type 0 where
-  pub ends : php p units ≡ record { out = out; end = Some end }
-  pub lacks : (php p (units - 1)).end ≡ None
+pub record EndsWith (p : Program) (units : ℕ) (out : List ℕ) (end : End Stop) : Type 0 where
+  pub ends : php p units ≡ record { output = out; end = end }
+  pub lacks : (php p (units - 1)).end ≡ More
 
-pub known_ends : (fs : List KnownFile) (paths : List (List ℕ)) → paths_of fs ≡ paths → (known : AllKnown (known_codes fs paths).codes) → (units : ℕ) →
-    {out : List ℕ} {end : End} →
-    seen (run (known_codes fs paths) (known_meanings fs paths known) units) ≡ record { out = out; end = Some end } →
-    (seen (run (known_codes fs paths) (known_meanings fs paths known) (units - 1))).end ≡ None → EndsWith (program fs) units out end
+pub known_ends : (fs : List KnownFile) (paths : List (List ℕ)) → paths_of fs ≡ paths → (known : AllKnown (known_codes fs paths) (known_codes fs paths).codes) → (units : ℕ) →
+    {out : List ℕ} {end : End Stop} →
+    outcome_of (run (known_meanings fs paths known) units) ≡ record { output = out; end = end } →
+    (outcome_of (run (known_meanings fs paths known) (units - 1))).end ≡ More → EndsWith (program fs) units out end
 known_ends fs paths same known units ends lacks = record {
   ends = prints fs paths same known units ∙ ends;
-  lacks = ap (λ (s : Seen). s.end) (prints fs paths same known (units - 1)) ∙ lacks;
+  lacks = ap (λ (s : Outcome Stop). s.end) (prints fs paths same known (units - 1)) ∙ lacks;
 }
 
 -- a program of one file, whatever its path
-pub one_file : (path : String Global) (ss : List KnownStatement) (known : AllKnown (known_codes ((path, ss) ∷ []) (string_bytes path ∷ [])).codes) → (units : ℕ) →
-    {out : List ℕ} {end : End} →
-    seen (run (known_codes ((path, ss) ∷ []) (string_bytes path ∷ [])) (known_meanings ((path, ss) ∷ []) (string_bytes path ∷ []) known) units)
-    ≡ record { out = out; end = Some end } →
-    (seen (run (known_codes ((path, ss) ∷ []) (string_bytes path ∷ [])) (known_meanings ((path, ss) ∷ []) (string_bytes path ∷ []) known) (units - 1))).end ≡ None →
+pub one_file : (path : String Global) (ss : List KnownStatement) (known : AllKnown (known_codes ((path, ss) ∷ []) (string_bytes path ∷ [])) (known_codes ((path, ss) ∷ []) (string_bytes path ∷ [])).codes) → (units : ℕ) →
+    {out : List ℕ} {end : End Stop} →
+    outcome_of (run (known_meanings ((path, ss) ∷ []) (string_bytes path ∷ []) known) units)
+    ≡ record { output = out; end = end } →
+    (outcome_of (run (known_meanings ((path, ss) ∷ []) (string_bytes path ∷ []) known) (units - 1))).end ≡ More →
     EndsWith (program ((path, ss) ∷ [])) units out end
 one_file path ss known units ends lacks = known_ends ((path, ss) ∷ []) (string_bytes path ∷ []) refl known units ends lacks

@@ -29,7 +29,7 @@ use Rattle.hph_php.specs.Expressions.{reading, evaluate}
 use Rattle.hph_php.specs.Statements.{Way, goes_on, block, branches, truth, loop, loop_after, for_loop, dropped, all_dropped, foreach, switch, static_variable_with, define_constant, return_with}
 use Rattle.hph_php.specs.Statements as s
 use Rattle.hph_php.specs.Executions.{execute, statement_by, function_statement, class_statement, unset_statement, static_statement, constant_statement, values}
-use Rattle.hph_php.specs.Declarations.{a_function, a_class, a_method, Found, With, WithMember, site_at, declarations_in, member_found, statement_found, class_found, function_found, case_found, else_if_found}
+use Rattle.hph_php.specs.Declarations.{a_function, a_class, a_method, Found, With, WithMember, a_static, static_number, site_at, declarations_in, member_found, statement_found, class_found, function_found, case_found, else_if_found}
 use Rattle.hph_php.specs.Run.{parameters, parameter, body_value, result_of}
 use Rattle.hph_php.proofs.Levels.{function_place, case_meaning, branch_meaning, statement_rolled, function_rolled, class_place_rolled, case_rolled, branch_rolled}
 use Rattle.hph_facts.proofs.KnownExpressions.{at0, KnownExpression}
@@ -385,18 +385,18 @@ abbrev pub static_trees : List KnownVariable → List StaticVariable
 static_trees vs = map {B = StaticVariable} (λ (v : KnownVariable). record { name = identifier v; value = tree_of v.value }) vs
 
 abbrev pub static_meaning : World → Context → KnownVariable → Means (Unit {0})
-static_meaning w c v = static_variable_with (site_at c.file v.start) v.name (option_map (value_of w c) v.value)
+static_meaning w c v = static_variable_with (static_number c.program (site_at c.file v.start)) v.name (option_map (value_of w c) v.value)
 
 pub statics_are : (w : World) (c : Context) (vs : List KnownVariable) → map (static_statement w c) (static_trees vs) ≡ map (static_meaning w c) vs
 statics_are w c [] = refl
-statics_are w c (v ∷ vs) = λ i. static_variable_with (site_at c.file v.start) v.name (value_is w c v.value i) ∷ statics_are w c vs i
+statics_are w c (v ∷ vs) = λ i. static_variable_with (static_number c.program (site_at c.file v.start)) v.name (value_is w c v.value i) ∷ statics_are w c vs i
 
 abbrev pub statics : List KnownVariable → KnownStatement
 statics vs = record {
   tree = roll-Statement (Statement-F.Static at0 (static_trees vs));
   means = λ w c. goes_on (in_order (map (static_meaning w c) vs));
   is = λ w c. statement_rolled w c (Statement-F.Static at0 (static_trees vs)) ∙ (λ i. goes_on (in_order (statics_are w c vs i)));
-  found = [];
+  found = map (λ (v : StaticVariable). a_static v.name.start) (static_trees vs);
   finds = statement_finds (Statement-F.Static at0 (static_trees vs));
 }
 

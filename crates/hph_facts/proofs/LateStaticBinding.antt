@@ -8,7 +8,7 @@ use Rattle.hph_ast.specs.declared.class.Access.TheVariants as access
 use Rattle.hph_ast.specs.declared.stmt.Statement.{out-Statement, roll-Statement}
 use Rattle.hph_ast.specs.declared.class.Member.{out-Member, roll-Member}
 use Rattle.hph_php.specs.Codes.{all_builtins}
-use Rattle.hph_php.specs.Answers.{Done}
+use Rattle.hph_wasm.specs.Outcome.{Done}
 use Rattle.hph_facts.proofs.KnownStatements.{KnownStatement, KnownFunction, KnownClassDeclaration, shows, gives, declares_class, with_constants, with_properties, with_method}
 use Rattle.hph_facts.proofs.KnownPrograms.{program, EndsWith, one_file, function_code, value_code, initial_values_code}
 use Rattle.hph_facts.proofs.Vocabulary.{int, text, static_call, method_call, new, class_constant, static_property, paren, assign, by_name, self_class, static_class}

@@ -8,7 +8,8 @@ use Rattle.hph_ast.specs.declared.stmt.Statement.{out-Statement, roll-Statement}
 use Rattle.hph_ast.specs.declared.class.Member.{out-Member, roll-Member}
 use Rattle.hph_php.specs.declared.fatal.Fatal.TheVariants as k
 use Rattle.hph_php.specs.Codes.{all_builtins}
-use Rattle.hph_php.specs.Answers.{Done, FatalError}
+use Rattle.hph_wasm.specs.Outcome.{Done, Stopped}
+use Rattle.hph_php.specs.Answers.{Fails}
 use Rattle.hph_facts.proofs.KnownStatements.{KnownStatement, does, shows, unsets}
 use Rattle.hph_facts.proofs.KnownPrograms.{program, EndsWith, one_file}
 use Rattle.hph_facts.proofs.Vocabulary.{int, text, var, constant, array, call, along, assign, keyed, index, last}
@@ -33,7 +34,7 @@ no_next_key =
     does (assign a.Set (var (codes "b")) (array (keyed (int 9223372036854775807) (int 1) ∷ []))) ∷
     does (assign a.Set (along (var (codes "b")) (last ∷ [])) (int 2)) ∷ []
 
-no_next_key_ends : (path : String Global) → EndsWith (program ((path, no_next_key) ∷ [])) 1 [] (FatalError k.AppendFull)
+no_next_key_ends : (path : String Global) → EndsWith (program ((path, no_next_key) ∷ [])) 1 [] (Stopped (Fails k.AppendFull))
 unfolding out roll out-Statement roll-Statement out-Member roll-Member digits all_builtins
 no_next_key_ends path = one_file path no_next_key tt 1 refl refl
 

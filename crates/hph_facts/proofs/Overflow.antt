@@ -10,7 +10,8 @@ use Rattle.hph_ast.specs.declared.stmt.Statement.{out-Statement, roll-Statement}
 use Rattle.hph_ast.specs.declared.class.Member.{out-Member, roll-Member}
 use Rattle.hph_php.specs.declared.fatal.Fatal.TheVariants as k
 use Rattle.hph_php.specs.Codes.{all_builtins}
-use Rattle.hph_php.specs.Answers.{FatalError}
+use Rattle.hph_wasm.specs.Outcome.{Stopped}
+use Rattle.hph_php.specs.Answers.{Fails}
 use Rattle.hph_facts.proofs.KnownStatements.{KnownStatement, does, shows}
 use Rattle.hph_facts.proofs.KnownPrograms.{program, EndsWith, one_file}
 use Rattle.hph_facts.proofs.Vocabulary.{text, var, constant, update, prefix, assign}
@@ -24,7 +25,7 @@ overflow =
     does (update u.PostIncrement (var (codes "x"))) ∷
     shows (text (codes "b") ∷ []) ∷ []
 
-overflow_ends : (path : String Global) → EndsWith (program ((path, overflow) ∷ [])) 1 (codes "a") (FatalError k.Overflow)
+overflow_ends : (path : String Global) → EndsWith (program ((path, overflow) ∷ [])) 1 (codes "a") (Stopped (Fails k.Overflow))
 unfolding out roll out-Statement roll-Statement out-Member roll-Member digits all_builtins
 overflow_ends path = one_file path overflow tt 1 refl refl
 
@@ -34,6 +35,6 @@ abbrev least_negated : List KnownStatement
 least_negated =
     shows (constant (codes "PHP_INT_MIN") ∷ prefix p.Minus (constant (codes "PHP_INT_MIN")) ∷ []) ∷ []
 
-least_negated_ends : (path : String Global) → EndsWith (program ((path, least_negated) ∷ [])) 1 (codes "-9223372036854775808") (FatalError k.Overflow)
+least_negated_ends : (path : String Global) → EndsWith (program ((path, least_negated) ∷ [])) 1 (codes "-9223372036854775808") (Stopped (Fails k.Overflow))
 unfolding out roll out-Statement roll-Statement out-Member roll-Member digits all_builtins
 least_negated_ends path = one_file path least_negated tt 1 refl refl

@@ -8,7 +8,8 @@ use Rattle.hph_ast.specs.declared.stmt.Statement.{out-Statement, roll-Statement}
 use Rattle.hph_ast.specs.declared.class.Member.{out-Member, roll-Member}
 use Rattle.hph_php.specs.declared.fatal.Fatal.TheVariants as k
 use Rattle.hph_php.specs.Codes.{all_builtins}
-use Rattle.hph_php.specs.Answers.{Done, FatalError}
+use Rattle.hph_wasm.specs.Outcome.{Done, Stopped}
+use Rattle.hph_php.specs.Answers.{Fails}
 use Rattle.hph_facts.proofs.KnownStatements.{KnownStatement, KnownFunction, does, shows, gives, body, if_, declares}
 use Rattle.hph_facts.proofs.KnownPrograms.{program, EndsWith, one_file, function_code}
 use Rattle.hph_facts.proofs.Vocabulary.{int, var, constant, call, run, pair, ternary}
@@ -39,7 +40,7 @@ factorial_overflows =
     declares factorial_fact ∷
     shows (call (codes "fact") (int 21 ∷ []) ∷ []) ∷ []
 
-factorial_overflows_ends : (path : String Global) → EndsWith (program ((path, factorial_overflows) ∷ [])) 22 [] (FatalError k.Overflow)
+factorial_overflows_ends : (path : String Global) → EndsWith (program ((path, factorial_overflows) ∷ [])) 22 [] (Stopped (Fails k.Overflow))
 unfolding out roll out-Statement roll-Statement out-Member roll-Member digits all_builtins
 factorial_overflows_ends path = one_file path factorial_overflows (function_code factorial_fact, tt) 22 refl refl
 

@@ -12,7 +12,8 @@ use Rattle.hph_ast.specs.declared.class.Access.TheVariants as access
 use Rattle.hph_ast.specs.declared.stmt.Statement.{out-Statement, roll-Statement}
 use Rattle.hph_ast.specs.declared.class.Member.{out-Member, roll-Member}
 use Rattle.hph_php.specs.Codes.{all_builtins}
-use Rattle.hph_php.specs.Answers.{Done, Exit}
+use Rattle.hph_wasm.specs.Outcome.{Done, Stopped}
+use Rattle.hph_php.specs.Answers.{Exits}
 use Rattle.hph_facts.proofs.KnownStatements.{KnownStatement, KnownFunction, KnownClassDeclaration, does, shows, gives, body, while_, for_, foreach_, declares, declares_class, with_constants, with_properties, with_method}
 use Rattle.hph_facts.proofs.KnownPrograms.{program, EndsWith, known_ends, one_file, function_code, value_code, initial_values_code}
 use Rattle.hph_facts.proofs.Vocabulary.{int, text, var, directory, array, call, method_call, new, class_constant, exit_with, along, update, prefix, run, pair, ternary, assign, interpolated, piece, interpolation, element, last, property, by_name, self_class}
@@ -137,6 +138,6 @@ stopped =
     does (exit_with (int 300)) ∷
     shows (text (codes "y") ∷ []) ∷ []
 
-stopped_ends : (path : String Global) → EndsWith (program ((path, stopped) ∷ [])) 1 (codes "x") (Exit (pos 300))
+stopped_ends : (path : String Global) → EndsWith (program ((path, stopped) ∷ [])) 1 (codes "x") (Stopped (Exits (pos 300)))
 unfolding out roll out-Statement roll-Statement out-Member roll-Member digits all_builtins
 stopped_ends path = one_file path stopped tt 1 refl refl

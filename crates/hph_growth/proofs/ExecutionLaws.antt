@@ -1,6 +1,6 @@
 -- What a statement means keeps that answers stay, by induction on its tree.
 use Rattle.std.proofs.Common.{◌≡◌, ℕ, List, [], ◌∷◌, ◌∙◌, map, refl, sym, subst}
-use Rattle.std.specs.Prelude.{is_some, Option, None, Some, position, slice_get}
+use Rattle.std.specs.Prelude.{Option, None, Some, position, slice_get}
 use Rattle.std.specs.Option.{option_map, option_map_or}
 use Rattle.hph_ast.specs.declared.token.Identifier.{Identifier}
 use Rattle.hph_ast.specs.declared.expr.Expr.{Expr}
@@ -14,20 +14,19 @@ use Rattle.hph_ast.specs.declared.stmt.ElseIf.{ElseIf, roll-ElseIf}
 use Rattle.hph_ast.specs.declared.stmt.StaticVariable.{StaticVariable}
 use Rattle.hph_ast.specs.declared.class.Member.TheOpen.{Member-F, Statement-F, Class-F, Function-F, Case-F, ElseIf-F}
 use Rattle.hph_ast.specs.declared.class.Member.TheFolds.{ind-Statement, map-Member, map-Statement, map-Class, map-Function, map-Case, map-ElseIf}
-use Rattle.hph_php.specs.declared.fatal.Fatal.TheVariants.{Redeclare, UndefinedClass}
 use Rattle.hph_php.specs.Values.{Value}
-use Rattle.hph_php.specs.State.{Name, Site, is_site, with_function, with_class, class_named}
+use Rattle.hph_php.specs.State.{Name, Site, is_site, with_class}
 use Rattle.hph_php.specs.Answers.{Means, change}
-use Rattle.hph_php.specs.Declarations.{Codes, PlacedClass, site_at, code_number, class_number, declared_class}
+use Rattle.hph_php.specs.Declarations.{Codes, PlacedClass, site_at, code_number, class_number, static_number, declared_class}
 use Rattle.hph_php.specs.World.{World, Context}
 use Rattle.hph_php.specs.Expressions.{reading, evaluate}
 use Rattle.hph_php.specs.Operations.{echo}
 use Rattle.hph_php.specs.Statements.{Way, Next, Breaks, Continues, global_variable, level_of}
-use Rattle.hph_php.specs.Executions.{is_function, declare_function, parent_number, parent_name, class_name, declare_class, declare_class_at, names_of, target_name, Place, is_made, function_statement, class_statement, values, static_statement, unset_statement, constant_statement, statement_by, execute, execute_all}
+use Rattle.hph_php.specs.Executions.{declare_in, declare_function, begin_class, parent_name, class_name, declare_class, declare_class_at, names_of, target_name, Place, function_statement, class_statement, values, static_statement, unset_statement, constant_statement, statement_by, execute, execute_all}
 use Rattle.hph_php.specs.Executions as ex
 use Rattle.hph_growth.specs.Growth.{Grows}
-use Rattle.hph_growth.proofs.GrowthLaws.{EachGrows, none, one_more, give_grows, nothing_grows, fail_grows, found_grows, print_grows, bind_grows, by_state_grows, in_order_grows, if_grows, option_grows, by_both}
-use Rattle.hph_growth.proofs.StateLaws.{same_grows, core_grows, global_variable_same}
+use Rattle.hph_growth.proofs.GrowthLaws.{EachGrows, none, one_more, give_grows, nothing_grows, heap_grows, print_grows, bind_grows, in_order_grows, option_grows, by_both}
+use Rattle.hph_growth.proofs.StateLaws.{same_grows, change_heap_grows, remake_heap_grows, global_variable_same}
 use Rattle.hph_growth.proofs.Worlds.{Worlds, earlier, later}
 use Rattle.hph_growth.proofs.CallLaws.{OptionGrows, neither, each_one}
 use Rattle.hph_growth.proofs.OperationLaws.{echo_grows}
@@ -38,19 +37,12 @@ use Rattle.hph_growth.proofs.ExpressionLaws.{reading_grows, evaluate_grows}
 -- ---- declarations
 
 pub declare_function_grows : (name : Name) (code : ℕ) → Grows (declare_function name code) (declare_function name code)
-declare_function_grows name code = by_state_grows (λ st. if_grows (is_function name st.core) (fail_grows Redeclare)
-    (core_grows (with_function name code) (λ core. refl)))
-
-parent_grows : (parent : Option Name) → Grows (parent_number parent) (parent_number parent)
-parent_grows None = give_grows None
-parent_grows (Some name) = by_state_grows (λ st.
-    bind_grows (found_grows UndefinedClass (class_named name st.core)) (λ c. give_grows (Some c.number)))
+declare_function_grows name code = remake_heap_grows (declare_in name code)
 
 declare_class_grows : (program : Codes) (number : ℕ) (c : PlacedClass) →
     Grows (declare_class program number c) (declare_class program number c)
-declare_class_grows program number c = by_state_grows (λ st. if_grows (is_some (class_named (class_name c) st.core)) (fail_grows Redeclare)
-    (bind_grows (parent_grows (parent_name c)) (λ parent.
-    core_grows (with_class (declared_class program number parent c)) (λ core. refl))))
+declare_class_grows program number c = bind_grows (heap_grows (begin_class (class_name c) (parent_name c))) (λ parent.
+    change_heap_grows (with_class (declared_class program number parent c)))
 
 pub declare_class_at_grows : (program : Codes) (site : Site) → Grows (declare_class_at program site) (declare_class_at program site)
 declare_class_at_grows program site = option_grows
@@ -66,12 +58,11 @@ module _ (ws : Worlds) (context : Context) where
 
   function_grows : {p q : Place} → p ≡ q → Grows (function_statement before context p) (function_statement after context q)
   function_grows {p} e = subst (λ q. Grows (function_statement before context p) (function_statement after context q)) e
-      (if_grows (is_made before context p.offset) nothing_grows
-      (declare_function_grows p.name (code_number ws.program (site_at context.file p.offset))))
+      (declare_function_grows p.name (code_number context.program (site_at context.file p.offset)))
 
   class_grows : {m n : ℕ} → m ≡ n → Grows (class_statement before context m) (class_statement after context n)
   class_grows {m} e = subst (λ n. Grows (class_statement before context m) (class_statement after context n)) e
-      (if_grows (is_made before context m) nothing_grows (declare_class_at_grows ws.program (site_at context.file m)))
+      (declare_class_at_grows context.program (site_at context.file m))
 
   -- ---- expressions of statements
 
@@ -96,7 +87,8 @@ module _ (ws : Worlds) (context : Context) where
   statics_grow : (vs : List StaticVariable) → EachGrows (map (static_statement before context) vs) (map (static_statement after context) vs)
   statics_grow [] = none
   statics_grow (v ∷ vs) =
-      one_more (static_grows (site_at context.file v.name.start) v.name.spelled (value_grows v.value)) (statics_grow vs)
+      one_more (static_grows (static_number context.program (site_at context.file v.name.start)) v.name.spelled (value_grows v.value))
+      (statics_grow vs)
 
   unsets_grow : (xs : List Expr) → EachGrows (map (λ x. unset_statement before context (reading before context x)) xs)
       (map (λ x. unset_statement after context (reading after context x)) xs)
@@ -272,7 +264,7 @@ module _ (ws : Worlds) (context : Context) where
   execute_grows = ind-Statement MemberHolds StatementHolds ClassHolds FunctionHolds CaseHolds BranchHolds
       member_made statement_made class_made function_made case_made branch_made
 
-  executed_grow : (xs : List Statement) → EachGrows (map (execute before context) xs) (map (execute after context) xs)
+  pub executed_grow : (xs : List Statement) → EachGrows (map (execute before context) xs) (map (execute after context) xs)
   executed_grow [] = none
   executed_grow (x ∷ xs) = one_more (execute_grows x) (executed_grow xs)
 

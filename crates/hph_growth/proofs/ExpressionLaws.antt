@@ -15,7 +15,7 @@ use Rattle.hph_php.specs.declared.fatal.Fatal.TheVariants.{UndefinedClass}
 use Rattle.hph_php.specs.Values.{Value, Null, Int, Str, array_value, empty_array}
 use Rattle.hph_php.specs.Arrays.{Array}
 use Rattle.hph_php.specs.State.{Name}
-use Rattle.hph_php.specs.Answers.{Means, Exit, give}
+use Rattle.hph_php.specs.Answers.{Means, Exits, give}
 use Rattle.hph_php.specs.Paths.{PathStep, by_key, at_end, by_property}
 use Rattle.hph_php.specs.World.{World, Context}
 use Rattle.hph_php.specs.Targets.{Reading, Base, Form, read, a_path, a_location, is_empty_value}
@@ -185,10 +185,10 @@ module _ (ws : Worlds) (context : Context) where
   expr_level (Expr-F.Variable at name) = variable_grows name
   expr_level (Expr-F.Constant at name) = valued_grows (constant_grows name)
   expr_level (Expr-F.Directory at) =
-      formed_grows refl (valued_grows (give_grows (Str (directory_of ws.program context.file))))
+      formed_grows refl (valued_grows (give_grows (Str (directory_of context.program context.file))))
   expr_level (Expr-F.Array at form items) =
       valued_grows (bind_grows (through_grows (items_hold items) empty_array) (λ elements. give_grows (array_value elements)))
-  expr_level (Expr-F.Call at name xs) = valued_grows (call_named_grows ws context.class name (expressions_hold xs))
+  expr_level (Expr-F.Call at name xs) = valued_grows (call_named_grows ws context name (expressions_hold xs))
   expr_level (Expr-F.StaticCall at class name xs) = valued_grows (static_call_grows name.1 class.1 (expressions_hold xs))
   expr_level (Expr-F.MethodCall at x name xs) = valued_grows (method_call_grows name.1 x.1.value (expressions_hold xs))
   expr_level (Expr-F.New at class xs) = valued_grows (new_grows ws context class.1 (expressions_hold xs))
@@ -197,7 +197,7 @@ module _ (ws : Worlds) (context : Context) where
   expr_level (Expr-F.Paren at x) = valued_grows x.1.value
   expr_level (Expr-F.Isset at xs) = valued_grows (all_set_grows context.class (expressions_hold xs))
   expr_level (Expr-F.Empty at x) = valued_grows (bind_grows (try_grows context.class x.1) (λ v. give_grows (is_empty_value v)))
-  expr_level (Expr-F.Exit at) = valued_grows (end_grows (Exit (pos 0)))
+  expr_level (Expr-F.Exit at) = valued_grows (end_grows (Exits (pos 0)))
   expr_level (Expr-F.ExitWith at x) = valued_grows (bind_grows x.1.value exit_grows)
   expr_level (Expr-F.Path at x steps) = at_path_grows context.class x.1.base (each_grows (steps_hold steps)) x.1.value
   expr_level (Expr-F.Update at form x) = valued_grows (moved_grows context.class form x.1)
@@ -221,7 +221,7 @@ module _ (ws : Worlds) (context : Context) where
   class_level (ClassReference-F.ByName at name) = named_class_grows name
   class_level (ClassReference-F.SelfClass at) = self_class_grows context
   class_level (ClassReference-F.Parent at) = parent_class_grows context
-  class_level (ClassReference-F.Static at) = static_class_grows context
+  class_level (ClassReference-F.Static at) = static_class_grows
   class_level (ClassReference-F.ByExpression at x) = record { number = fail_grows UndefinedClass; forwards = refl }
 
   item_level : (y : Item-F HeldClass HeldExpr HeldItem HeldMember HeldStep HeldPart) (elements : Array Value) →

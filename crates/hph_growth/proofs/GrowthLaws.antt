@@ -5,8 +5,8 @@ use Rattle.std.specs.Prelude.{Bool, true, false, Option, None, Some, Result, Ok,
 use Rattle.std.specs.Option.{option_map_or}
 use Rattle.hph_wasm.specs.Outcome.{IsPrefix}
 use Rattle.hph_php.specs.declared.fatal.Fatal.{Fatal}
-use Rattle.hph_php.specs.State.{State, on_core, printed}
-use Rattle.hph_php.specs.Answers.{Means, Answer, Gets, Ends, More, End, proceed, bind, first, spend, give, nothing, by_state, look, change, fail, end_with, settle, found_or, print, each, through, in_order}
+use Rattle.hph_php.specs.State.{State, Heap, on_core, printed}
+use Rattle.hph_php.specs.Answers.{Means, Answer, Gets, Ends, More, Stop, proceed, bind, first, spend, give, nothing, by_state, by_heap, look, change, fail, end_with, settle, print, each, through, in_order}
 use Rattle.hph_php.specs.Statements.{lacking}
 use Rattle.hph_growth.specs.Growth.{Before, state_of, Comes, Stays, Grows}
 
@@ -37,8 +37,8 @@ give_grows a = record {
 pub nothing_grows : Grows nothing nothing
 nothing_grows = give_grows tt
 
-pub end_grows : {A : Type 0} (end : End) → Grows {A = A} (end_with end) (end_with end)
-end_grows end = record {
+pub end_grows : {A : Type 0} (stop : Stop) → Grows {A = A} (end_with stop) (end_with stop)
+end_grows stop = record {
   comes = λ n st. before_itself st;
   later_comes = λ n st. before_itself st;
   stays = λ n extra st. refl;
@@ -54,10 +54,6 @@ fail_grows kind = record {
 pub settle_grows : {A : Type 0} (r : Result A Fatal) → Grows (settle r) (settle r)
 settle_grows (Ok a) = give_grows a
 settle_grows (Err kind) = fail_grows kind
-
-pub found_grows : {A : Type 0} (kind : Fatal) (o : Option A) → Grows (found_or kind o) (found_or kind o)
-found_grows kind None = fail_grows kind
-found_grows kind (Some a) = give_grows a
 
 pub look_grows : {A : Type 0} (f : State → A) → Grows (look f) (look f)
 look_grows f = record {
@@ -124,6 +120,9 @@ by_state_grows p = record {
   later_comes = λ n st. (p st).later_comes n st;
   stays = λ n extra st. (p st).stays n extra st;
 }
+
+pub heap_grows : {A : Type 0} (rule : Heap → Result A Fatal) → Grows (by_heap rule) (by_heap rule)
+heap_grows rule = by_state_grows (λ st. settle_grows (rule st.core.heap))
 
 -- ---- units
 

@@ -11,24 +11,23 @@ use Rattle.hph_ast.specs.declared.operator.Assignment.{Assignment}
 use Rattle.hph_ast.specs.declared.operator.Assignment.TheVariants as setting
 use Rattle.hph_ast.specs.declared.expr.Update.{Update}
 use Rattle.hph_ast.specs.declared.expr.Update.TheVariants as update
-use Rattle.hph_php.specs.declared.fatal.Fatal.TheVariants.{UndefinedConstant}
 use Rattle.hph_php.specs.declared.operator.BinOp.{BinOp}
 use Rattle.hph_php.specs.declared.operator.UnOp.{UnOp}
 use Rattle.hph_php.specs.declared.operator.UnOp.TheVariants as unary
-use Rattle.hph_php.specs.Values.{Value, Null, Boolean, Int, Str, Arr, Obj}
-use Rattle.hph_php.specs.Conversions.{to_bool, to_text, to_key}
+use Rattle.hph_php.specs.Values.{Value, Null, Boolean, Int}
+use Rattle.hph_php.specs.Conversions.{to_bool, to_text}
 use Rattle.hph_php.specs.Operators.{binary_of, unary_of, incremented, decremented}
-use Rattle.hph_php.specs.Arrays.{Array, append, set}
-use Rattle.hph_php.specs.State.{Name, place_variable, placed, bind_variable, variable_value, is_entered, enter}
-use Rattle.hph_php.specs.Answers.{Means, Exit}
+use Rattle.hph_php.specs.Arrays.{Array, append}
+use Rattle.hph_php.specs.State.{Name, share, by_name, variable_value, is_entered, enter}
+use Rattle.hph_php.specs.Answers.{Means, Exits}
 use Rattle.hph_php.specs.World.{Context}
 use Rattle.hph_php.specs.Targets.{Reading, Form, plain_variable}
 use Rattle.hph_php.specs.Classes.{ClassChoice}
 use Rattle.hph_php.specs.Includes.{enter_file, include, is_once, file_at, normalised, from_folder, directory_of}
-use Rattle.hph_php.specs.Operations.{constant_value, constant_named, is_this, this_value, variable, share, strict, truth_of, and_also, or_other, operated, operate, run, pair, ternary, short_ternary, apply, cast_of, echo, exit_with, prefix, instances, compound, assigned, assignment, moved_by, add_last, add_keyed, text_of}
+use Rattle.hph_php.specs.Operations.{constant_in, constant_named, is_this, this_value, variable, share_forms, strict, truth_of, and_also, or_other, operated, operate, run, pair, ternary, short_ternary, apply, cast_of, echo, exit_of, exit_with, prefix, instances, compound, assigned, assignment, moved_by, add_last, with_key, add_keyed, text_of}
 use Rattle.hph_growth.specs.Growth.{Grows}
-use Rattle.hph_growth.proofs.GrowthLaws.{give_grows, nothing_grows, end_grows, look_grows, settle_grows, found_grows, print_grows, bind_grows, first_grows, by_state_grows, if_grows, option_grows}
-use Rattle.hph_growth.proofs.StateLaws.{same_grows, core_grows, place_variable_same, bind_variable_same, enter_out}
+use Rattle.hph_growth.proofs.GrowthLaws.{give_grows, nothing_grows, end_grows, look_grows, settle_grows, heap_grows, print_grows, bind_grows, first_grows, by_state_grows, if_grows, option_grows}
+use Rattle.hph_growth.proofs.StateLaws.{located_grows, change_heap_grows}
 use Rattle.hph_growth.proofs.TargetLaws.{ReadingGrows, AllGrow, no_reading, one_reading, alike, valued_grows, variable_base_grows, value_or_grows, try_grows, assign_grows, assign_with_grows, assign_if_unset_grows, update_grows}
 use Rattle.hph_growth.proofs.Worlds.{Worlds, earlier, later}
 use Rattle.hph_growth.proofs.ClassLaws.{ChoicesGrow, no_choice, one_choice, instance_grows}
@@ -37,21 +36,21 @@ use Rattle.hph_growth.proofs.ClassLaws.{ChoicesGrow, no_choice, one_choice, inst
 
 module _ (ws : Worlds) where
   enter_file_grows : (once : Bool) (file : ℕ) → Grows (enter_file (earlier ws) once file) (enter_file (later ws) once file)
-  enter_file_grows once file = by_state_grows (λ st. if_grows (once && is_entered file st.core) nothing_grows
-      (first_grows (core_grows (enter file) (enter_out file)) (ws.enters file)))
+  enter_file_grows once file = by_state_grows (λ st. if_grows (once && is_entered file st.core.heap) nothing_grows
+      (first_grows (change_heap_grows (enter file)) (ws.enters file)))
 
   pub include_grows : (context : Context) (form : IncludeForm) {x y : Reading} → ReadingGrows x y →
       Grows (include (earlier ws) context form x) (include (later ws) context form y)
   include_grows context form {x} {y} p = alike p (λ z. Grows (include (earlier ws) context form x) (include (later ws) context form z))
       (bind_grows p.value (λ v. bind_grows (settle_grows (to_text v)) (λ text. first_grows
-      (option_grows (file_at ws.program (normalised (from_folder x.form (directory_of ws.program context.file) text)))
+      (option_grows (file_at context.program (normalised (from_folder x.form (directory_of context.program context.file) text)))
       (enter_file_grows (is_once form)) nothing_grows)
       (give_grows Null))))
 
 -- ---- constants and variables
 
 pub constant_grows : (name : Name) → Grows (constant_named name) (constant_named name)
-constant_grows name = by_state_grows (λ st. found_grows UndefinedConstant (constant_value name st))
+constant_grows name = heap_grows (constant_in name)
 
 if_reads : (b : Bool) {x x' y y' : Reading} → ReadingGrows x x' → ReadingGrows y y' →
     ReadingGrows (if b then x else y) (if b then x' else y')
@@ -66,15 +65,14 @@ variable_grows name = if_reads (is_this name) (valued_grows (look_grows this_val
   steps = give_grows [];
 })
 
-share_forms : (f g : Form) → Grows (share f g) (share f g)
-share_forms (plain_variable x) (plain_variable y) = first_grows (same_grows (place_variable y) (place_variable_same y)) (first_grows
-    (same_grows (λ st. bind_variable x (placed y st) st) (λ st. bind_variable_same x (placed y st) st))
-    (look_grows (λ st. unwrap_or (variable_value x st) Null)))
-share_forms _ _ = give_grows Null
+forms_grow : (f g : Form) → Grows (share_forms f g) (share_forms f g)
+forms_grow (plain_variable x) (plain_variable y) =
+    first_grows (located_grows (share by_name x y)) (look_grows (λ st. unwrap_or (variable_value x st) Null))
+forms_grow _ _ = give_grows Null
 
-pub share_grows : {x x' y y' : Reading} → ReadingGrows x x' → ReadingGrows y y' → Grows (share x.form y.form) (share x'.form y'.form)
-share_grows {x} {x'} {y} {y'} p q = alike p (λ z. Grows (share x.form y.form) (share z.form y'.form))
-    (alike q (λ z. Grows (share x.form y.form) (share x.form z.form)) (share_forms x.form y.form))
+pub share_grows : {x x' y y' : Reading} → ReadingGrows x x' → ReadingGrows y y' → Grows (share_forms x.form y.form) (share_forms x'.form y'.form)
+share_grows {x} {x'} {y} {y'} p q = alike p (λ z. Grows (share_forms x.form y.form) (share_forms z.form y'.form))
+    (alike q (λ z. Grows (share_forms x.form y.form) (share_forms x.form z.form)) (forms_grow x.form y.form))
 
 -- ---- operators
 
@@ -126,15 +124,7 @@ pub echo_grows : {m m' : Means Value} → Grows m m' → Grows (echo m) (echo m'
 echo_grows p = bind_grows p (λ v. bind_grows (settle_grows (to_text v)) print_grows)
 
 pub exit_grows : (v : Value) → Grows (exit_with v) (exit_with v)
-exit_grows (Int z) = end_grows (Exit z)
-exit_grows Null = bind_grows (settle_grows (to_text Null)) (λ text. first_grows (print_grows text) (end_grows (Exit (pos 0))))
-exit_grows (Boolean t) =
-    bind_grows (settle_grows (to_text (Boolean t))) (λ text. first_grows (print_grows text) (end_grows (Exit (pos 0))))
-exit_grows (Str bytes) = bind_grows (settle_grows (to_text (Str bytes))) (λ text. first_grows (print_grows text) (end_grows (Exit (pos 0))))
-exit_grows (Arr pairs next_key) =
-    bind_grows (settle_grows (to_text (Arr pairs next_key))) (λ text. first_grows (print_grows text) (end_grows (Exit (pos 0))))
-exit_grows (Obj object) =
-    bind_grows (settle_grows (to_text (Obj object))) (λ text. first_grows (print_grows text) (end_grows (Exit (pos 0))))
+exit_grows v = bind_grows (settle_grows (exit_of v)) (λ e. first_grows (print_grows e.0) (end_grows (Exits e.1)))
 
 pub prefix_grows : (ws : Worlds) (context : Context) (op : Prefix) {x y : Reading} → ReadingGrows x y →
     Grows (prefix (earlier ws) context op x) (prefix (later ws) context op y)
@@ -176,7 +166,7 @@ pub add_last_grows : (v : Value) (elements : Array Value) → Grows (add_last v 
 add_last_grows v elements = settle_grows (append elements v)
 
 pub add_keyed_grows : (key v : Value) (elements : Array Value) → Grows (add_keyed key v elements) (add_keyed key v elements)
-add_keyed_grows key v elements = bind_grows (settle_grows (to_key key)) (λ k. give_grows (set elements k v))
+add_keyed_grows key v elements = settle_grows (with_key key v elements)
 
 pub text_grows : {m m' : Means Value} → Grows m m' → (before : List ℕ) → Grows (text_of m before) (text_of m' before)
 text_grows p before = bind_grows p (λ v. bind_grows (settle_grows (to_text v)) (λ text. give_grows (before ++ text)))

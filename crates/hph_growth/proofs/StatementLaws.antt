@@ -1,19 +1,18 @@
 -- Statements, loops and switches keep that answers stay.
-use Rattle.std.proofs.Common.{◌+◌, ◌≤◌, ℕ, zero, suc, List, [], ◌∷◌, map, arith}
-use Rattle.std.specs.Prelude.{Bool, true, Option}
+use Rattle.std.proofs.Common.{◌+◌, ◌≤◌, ℕ, zero, suc, List, [], ◌∷◌, map, arith, refl}
+use Rattle.std.specs.Prelude.{Bool, true, is_some, Option}
 use Rattle.std.specs.Option.{option_map_or}
 use Rattle.hph_array.specs.declared.key.Key.{Key}
-use Rattle.hph_php.specs.declared.fatal.Fatal.TheVariants.{ObjectUse}
-use Rattle.hph_php.specs.Values.{Value, Null, Arr, Obj, listed}
+use Rattle.hph_php.specs.Values.{Value, Null}
 use Rattle.hph_php.specs.Conversions.{to_bool}
 use Rattle.hph_php.specs.Comparison.{loosely_equal}
-use Rattle.hph_php.specs.State.{Name, Site, bind_variable, unbind_variable, set_variable, static_variable, with_constant}
+use Rattle.hph_php.specs.State.{Name, by_name, set, bind_static, unbind_variable, set_variable, static_variable, with_constant}
 use Rattle.hph_php.specs.Answers.{Means, bind, nothing, change}
 use Rattle.hph_php.specs.Targets.{Reading, Form, plain_variable, a_path, from_directory, another}
-use Rattle.hph_php.specs.Statements.{Way, Next, Breaks, Continues, Returns, goes_on, next_by, both, block, truth, choose, branches, after_turn, turn, turn_if, lacking, turns, loop, loop_after, tests, dropped, all_dropped, for_loop, set_element, each_pair, foreach_in, foreach, Case, bodies, default_bodies, pick_if, pick, switch, new_static, static_variable_with, unset_by, define_constant, return_with}
+use Rattle.hph_php.specs.Statements.{Way, Next, Breaks, Continues, Returns, goes_on, next_by, both, block, truth, choose, branches, after_turn, turn, turn_if, lacking, turns, loop, loop_after, tests, dropped, all_dropped, for_loop, set_element, each_pair, turns_of, foreach_in, foreach, Case, bodies, default_bodies, pick_if, pick, switch, static_variable_with, unset_by, define_constant, return_with}
 use Rattle.hph_growth.specs.Growth.{Grows}
-use Rattle.hph_growth.proofs.GrowthLaws.{EachGrows, none, one_more, before_itself, give_grows, nothing_grows, fail_grows, settle_grows, bind_grows, first_grows, by_state_grows, spend_grows, lacking_grows, in_order_grows, if_grows, option_grows}
-use Rattle.hph_growth.proofs.StateLaws.{same_grows, core_grows, bind_variable_same, unbind_variable_same, set_variable_same, set_element_same, new_static_same, with_constant_out}
+use Rattle.hph_growth.proofs.GrowthLaws.{EachGrows, none, one_more, before_itself, give_grows, nothing_grows, settle_grows, bind_grows, first_grows, by_state_grows, spend_grows, lacking_grows, in_order_grows, if_grows, option_grows}
+use Rattle.hph_growth.proofs.StateLaws.{same_grows, located_grows, change_heap_grows, set_element_same}
 use Rattle.hph_growth.proofs.WriteLaws.{unset_from_grows}
 use Rattle.hph_growth.proofs.TargetLaws.{ReadingGrows, alike, formed, along_grows}
 use Rattle.hph_growth.proofs.CallLaws.{OptionGrows, neither, each_one}
@@ -29,7 +28,7 @@ next_grows p (Breaks level) = give_grows (Breaks level)
 next_grows p (Continues level) = give_grows (Continues level)
 next_grows p (Returns value) = give_grows (Returns value)
 
-both_grows : {m m' rest later : Means Way} → Grows m m' → Grows rest later → Grows (both m rest) (both m' later)
+pub both_grows : {m m' rest later : Means Way} → Grows m m' → Grows rest later → Grows (both m rest) (both m' later)
 both_grows p q = bind_grows p (next_grows q)
 
 pub block_grows : {ms laters : List (Means Way)} → EachGrows ms laters → Grows (block ms) (block laters)
@@ -136,9 +135,7 @@ pairs_grow key value p (e ∷ ps) = spend_grows (bind_grows
 
 foreach_in_grows : (key : Option Name) (value : Name) {body body' : Means Way} → Grows body body' → (v : Value) →
     Grows (foreach_in key value body v) (foreach_in key value body' v)
-foreach_in_grows key value p (Arr pairs next_key) = pairs_grow key value p (listed pairs)
-foreach_in_grows key value p (Obj object) = fail_grows ObjectUse
-foreach_in_grows key value p v = give_grows Next
+foreach_in_grows key value p v = bind_grows (settle_grows (turns_of v)) (pairs_grow key value p)
 
 pub foreach_grows : (key : Option Name) (value : Name) {m m' : Means Value} {body body' : Means Way} → Grows m m' → Grows body body' →
     Grows (foreach m key value body) (foreach m' key value body')
@@ -184,16 +181,15 @@ new_static_value : (name : Name) {o o' : Option (Means Value)} → OptionGrows o
     Grows (option_map_or (λ (m : Means Value). bind m (λ v. change (set_variable name v))) o nothing)
     (option_map_or (λ (m : Means Value). bind m (λ v. change (set_variable name v))) o' nothing)
 new_static_value name neither = nothing_grows
-new_static_value name (each_one p) = bind_grows p (λ v. same_grows (set_variable name v) (set_variable_same name v))
+new_static_value name (each_one p) = bind_grows p (λ v. located_grows (set by_name name v))
 
-pub static_grows : (site : Site) (name : Name) {o o' : Option (Means Value)} → OptionGrows o o' →
-    Grows (static_variable_with site name o) (static_variable_with site name o')
-static_grows site name p = by_state_grows (λ st. option_grows (static_variable site st.core)
-    (λ location. same_grows (bind_variable name location) (bind_variable_same name location))
-    (first_grows (same_grows (new_static site name) (new_static_same site name)) (new_static_value name p)))
+pub static_grows : (number : ℕ) (name : Name) {o o' : Option (Means Value)} → OptionGrows o o' →
+    Grows (static_variable_with number name o) (static_variable_with number name o')
+static_grows number name p = by_state_grows (λ st. first_grows (located_grows (bind_static by_name name number))
+    (if_grows (is_some (static_variable number st.core.places)) nothing_grows (new_static_value name p)))
 
 unset_by_grows : (within : Option ℕ) (form : Form) {x y : Reading} → ReadingGrows x y → Grows (unset_by within form x) (unset_by within form y)
-unset_by_grows within (plain_variable name) p = same_grows (unbind_variable name) (unbind_variable_same name)
+unset_by_grows within (plain_variable name) p = same_grows (unbind_variable name) (λ st. record { out = refl; called = refl })
 unset_by_grows within a_path p = along_grows p (unset_from_grows within)
 unset_by_grows within from_directory p = along_grows p (unset_from_grows within)
 unset_by_grows within another p = along_grows p (unset_from_grows within)
@@ -202,7 +198,7 @@ pub unset_grows : (within : Option ℕ) {x y : Reading} → ReadingGrows x y →
 unset_grows within {x} p = alike p (λ z. Grows (unset_by within x.form x) (unset_by within z.form z)) (unset_by_grows within x.form (formed p))
 
 pub define_grows : (name : Name) {m m' : Means Value} → Grows m m' → Grows (define_constant name m) (define_constant name m')
-define_grows name p = bind_grows p (λ v. core_grows (with_constant name v) (with_constant_out name v))
+define_grows name p = bind_grows p (λ v. change_heap_grows (with_constant name v))
 
 pub return_grows : {o o' : Option (Means Value)} → OptionGrows o o' → Grows (return_with o) (return_with o')
 return_grows neither = give_grows (Returns Null)

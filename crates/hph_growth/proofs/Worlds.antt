@@ -1,15 +1,13 @@
--- Two worlds of one program, of which one agrees with the other where its answers have come.
-use Rattle.std.proofs.Common.{ℕ, List, subst}
+-- Two worlds, of which one agrees with the other where its answers have come.
+use Rattle.std.proofs.Common.{ℕ, List}
 use Rattle.hph_php.specs.Values.{Value}
 use Rattle.hph_php.specs.State.{Name}
 use Rattle.hph_php.specs.Answers.{Means}
-use Rattle.hph_php.specs.Declarations.{Codes}
 use Rattle.hph_php.specs.World.{World, Receiver, Argument}
 use Rattle.hph_growth.specs.Growth.{Grows, WorldGrows}
 
--- as one value, so that the program of both is the same by its form
+-- as one value
 pub record Worlds : Type 0 where
-  pub program : Codes
   pub call : ℕ → Receiver → List Argument → Means Value
   pub later_call : ℕ → Receiver → List Argument → Means Value
   pub enter : ℕ → Means (Unit {0})
@@ -28,7 +26,6 @@ pub record Worlds : Type 0 where
 
 abbrev pub earlier : Worlds → World
 earlier ws = record {
-  program = ws.program;
   call = ws.call;
   enter = ws.enter;
   constant = ws.constant;
@@ -38,7 +35,6 @@ earlier ws = record {
 
 abbrev pub later : Worlds → World
 later ws = record {
-  program = ws.program;
   call = ws.later_call;
   enter = ws.later_enter;
   constant = ws.later_constant;
@@ -48,7 +44,6 @@ later ws = record {
 
 worlds_of : {w w' : World} → WorldGrows w w' → Worlds
 worlds_of {w} {w'} p = record {
-  program = w.program;
   call = w.call;
   later_call = w'.call;
   enter = w.enter;
@@ -66,7 +61,7 @@ worlds_of {w} {w'} p = record {
   all_initials = p.all_initials;
 }
 
--- what holds of worlds with one program holds of both
+-- what holds of these worlds holds of both
 pub between : {w w' : World} (p : WorldGrows w w') (P : World → World → Type 0) → ((ws : Worlds) → P (earlier ws) (later ws)) → P w w'
 unfolding worlds_of
-between {w} {w'} p P holds = subst (λ program. P w (record w' { program = program })) p.program (holds (worlds_of p))
+between {w} {w'} p P holds = holds (worlds_of p)

@@ -13,19 +13,19 @@ pub record Before (a b : State) : Type 0 where
 
 abbrev pub state_of : {A : Type 0} → Answer A → State
 state_of (Gets a n st) = st
-state_of (Ends end st) = st
+state_of (Ends stop st) = st
 state_of (More st) = st
 
 -- An answer from units and a state: it leaves no more units, and its state comes later.
 abbrev pub Comes : {A : Type 0} → ℕ → State → Answer A → Type 0
 Comes n st (Gets a k after) = (k ≤ n) × Before st after
-Comes n st (Ends end after) = Before st after
+Comes n st (Ends stop after) = Before st after
 Comes n st (More after) = Before st after
 
 -- The answer with so many more units. A value is got with all of them left, and where units lacked anything may have followed.
 abbrev pub Stays : {A : Type 0} → ℕ → Answer A → Answer A → Type 0
 Stays extra (Gets a k st) later = later ≡ Gets a (k + extra) st
-Stays extra (Ends end st) later = later ≡ Ends end st
+Stays extra (Ends stop st) later = later ≡ Ends stop st
 Stays extra (More st) later = Before st (state_of later)
 
 -- A meaning and another that agrees with it where the answer of the first has come. Neither makes units, nor takes back what was
@@ -35,9 +35,8 @@ pub record Grows {A : Type 0} (m later : Means A) : Type 0 where
   pub later_comes : (n : ℕ) (st : State) → Comes n st (later n st)
   pub stays : (n extra : ℕ) (st : State) → Stays extra (m n st) (later (n + extra) st)
 
--- the same of all that a world runs, of one program
+-- the same of all that a world runs
 pub record WorldGrows (w later : World) : Type 0 where
-  pub program : w.program ≡ later.program
   pub calls : (code : ℕ) (on : Receiver) (args : List Argument) → Grows (w.call code on args) (later.call code on args)
   pub enters : (file : ℕ) → Grows (w.enter file) (later.enter file)
   pub constants : (code : ℕ) → Grows (w.constant code) (later.constant code)

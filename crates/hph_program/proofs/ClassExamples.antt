@@ -18,7 +18,8 @@ use Rattle.hph_ast.specs.declared.class.Member.TheOpen.{Class-F, Member-F, State
 use Rattle.hph_ast.specs.declared.class.Member.TheFolds.{para-Member, para-Statement, para-Class, para-Function, para-Case, para-ElseIf, para-roll-Member, map-Member}
 use Rattle.hph_ast.specs.declared.program.Program.{Program}
 use Rattle.hph_php.specs.State.{Name}
-use Rattle.hph_php.specs.Answers.{Means, Done, bind, give}
+use Rattle.hph_wasm.specs.Outcome.{Done}
+use Rattle.hph_php.specs.Answers.{Means, bind, give}
 use Rattle.hph_php.specs.Codes.{all_builtins}
 use Rattle.hph_php.specs.Cost.{nodes, statement_nodes, cost}
 use Rattle.hph_php.specs.Declarations.{Codes, Declaration, With, WithMember, member_found, statement_found, class_found, function_found, case_found, else_if_found, declarations_in, codes_of, all_declarations, placed_at, site_at, a_body, initial_values}
@@ -141,7 +142,7 @@ module _ (w : World) (c : Context) where
   paren_is start end {x} p = record { is = reading_rolled w c (Expr-F.Paren (from_to start end) x) ∙ (λ i. valued (p.is i).value) }
 
   abbrev news_static : Reading
-  news_static = valued (new_object w c (static_class c) [])
+  news_static = valued (new_object w c (static_class) [])
 
   new_static_is : Reads w c new_static news_static
   new_static_is = record {
@@ -179,9 +180,9 @@ module _ (w : World) (c : Context) where
   who_b_is : AllDone w c who_b_body (means.returns w c (means.text w c (codes "B")) ∷ [])
   who_b_is = and_done w c (returns_is w c 155 166 (text_is w c 162 165 (codes "B"))) (none_done w c)
 
-abbrev method : Bool → ℕ → Function → (World → Context → List (Means Way)) → Routine
-method is_static class f m = a_function is_static (λ w. parameters w (in_body 0 (Some class)) f)
-    (λ w. bind (block (m w (in_body 0 (Some class)))) (λ way. give (result_of way)))
+abbrev method : Codes → ℕ → Function → (World → Context → List (Means Way)) → Routine
+method p class f m = a_function (λ w. parameters w (in_body p 0 (Some class)) f)
+    (λ w. bind (block (m w (in_body p 0 (Some class)))) (λ way. give (result_of way)))
 
 -- ---- declarations in members, which go by the offset of their class
 
@@ -217,11 +218,11 @@ member_declares d offset = λ i. para-roll-Member (ℕ → Found) Found Found Fo
 abbrev Body : Type 0
 Body = World → Context → List (Means Way)
 
-abbrev all_mean : Body → Body → Body → Body → Meanings
-all_mean m make_m who_a_m who_b_m = record {
-  files = (λ w. entering w 0 statements (λ c. block (m w c))) ∷ [];
-  routines = method true 0 make make_m ∷ method false 0 who_a who_a_m ∷ method false 1 who_b who_b_m
-      ∷ initials (λ w. give []) ∷ initials (λ w. give []) ∷ [];
+abbrev all_mean : Codes → Body → Body → Body → Body → Meanings
+all_mean p m make_m who_a_m who_b_m = record {
+  files = (λ w. entering p 0 statements (λ c. m w c)) ∷ [];
+  routines = method p 0 make make_m ∷ method p 0 who_a who_a_m ∷ method p 1 who_b who_b_m
+      ∷ initials 0 (λ w. give []) ∷ initials 1 (λ w. give []) ∷ [];
 }
 
 module _ (path : String Global) where
@@ -235,6 +236,7 @@ module _ (path : String Global) where
     classes = record { site = site_at 0 6; class = class_a } ∷ record { site = site_at 0 111; class = class_b } ∷ [];
     codes = placed_at 0 30 (a_body make (Some 0) true) ∷ placed_at 0 78 (a_body who_a (Some 0) false) ∷ placed_at 0 138 (a_body who_b (Some 1) false)
         ∷ placed_at 0 6 (initial_values [] 0) ∷ placed_at 0 111 (initial_values [] 1) ∷ [];
+    statics = [];
   }
 
   makes_codes : codes_of makes ≡ makes_code
@@ -246,14 +248,14 @@ module _ (path : String Global) where
   unfolding declarations_in
   makes_declares = simp (trees, member_declares)
 
-  makes_meanings : meanings_of makes.files makes_code ≡ all_mean statements_mean
+  makes_meanings : meanings_of makes.files makes_code ≡ all_mean makes_code statements_mean
       (λ w c. means.returns w c (news_static w c) ∷ []) (λ w c. means.returns w c (means.text w c (codes "A")) ∷ [])
       (λ w c. means.returns w c (means.text w c (codes "B")) ∷ [])
   unfolding out roll
-  makes_meanings = λ i. all_mean (λ w c. (statements_are w c).is i) (λ w c. (make_body_is w c).is i) (λ w c. (who_a_is w c).is i) (λ w c. (who_b_is w c).is i)
+  makes_meanings = λ i. all_mean makes_code (λ w c. (statements_are w c).is i) (λ w c. (make_body_is w c).is i) (λ w c. (who_a_is w c).is i) (λ w c. (who_b_is w c).is i)
 
   -- a unit for the file, and one for each of four calls
-  makes_prints : php makes 5 ≡ record { out = codes "BA"; end = Some Done }
+  makes_prints : php makes 5 ≡ record { output = codes "BA"; end = Done }
   unfolding out-Statement roll-Statement out-Member roll-Member out roll all_builtins
   makes_prints = php_is makes makes_codes makes_meanings 5 ∙ refl
 

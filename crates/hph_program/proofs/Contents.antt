@@ -3,13 +3,14 @@ use Rattle.std.proofs.Common.{◌≡◌, ◌∙◌, sym, refl, ℕ, suc, ◌+◌
 use Rattle.std.specs.Prelude.{flat_map, filter_map}
 use Rattle.hph_ast.specs.declared.program.File.{File}
 use Rattle.hph_ast.specs.declared.program.Program.{Program}
-use Rattle.hph_php.specs.Answers.{Means}
+use Rattle.hph_wasm.specs.Outcome.{Outcome}
+use Rattle.hph_php.specs.Answers.{Means, Stop}
 use Rattle.hph_php.specs.Cost.{total_of, statement_nodes, file_nodes, cost}
-use Rattle.hph_php.specs.Declarations.{Codes, Declaration, Placed, path_of, file_declarations, declarations_in, numbered_from, all_declarations, class_declaration, body_code, constant_codes, static_codes, initial_code, codes_of}
+use Rattle.hph_php.specs.Declarations.{Codes, Declaration, Placed, path_of, file_declarations, declarations_in, numbered_from, all_declarations, class_declaration, static_declaration, body_code, constant_codes, static_codes, initial_code, codes_of}
 use Rattle.hph_php.specs.World.{World}
-use Rattle.hph_php.specs.Executions.{execute_all}
+use Rattle.hph_php.specs.Executions.{execute}
 use Rattle.hph_php.specs.Files.{entering, run_file}
-use Rattle.hph_php.specs.Run.{Meanings, routine_in, meanings_of, run, seen, Seen, php, calls}
+use Rattle.hph_php.specs.Run.{Meanings, routine_in, meanings_of, run, outcome_of, php, calls}
 use Rattle.hph_program.specs.Sources.{Content, content}
 use Rattle.hph_program.specs.Laws.{ContentsDecide}
 use Rattle.hph_program.proofs.Runs.{calls_by}
@@ -46,39 +47,45 @@ codes_by cs = record {
   paths = map (λ (c : Content). c.path) cs;
   classes = filter_map class_declaration (declarations_by cs);
   codes = codes_from (declarations_by cs);
+  statics = filter_map static_declaration (declarations_by cs);
 }
 
 codes_are : (p : Program) → codes_of p ≡ codes_by (map content p.files)
-codes_are p = λ i. record { paths = paths p.files i; classes = filter_map class_declaration (declared p i); codes = codes_from (declared p i) }
+codes_are p = λ i. record {
+  paths = paths p.files i;
+  classes = filter_map class_declaration (declared p i);
+  codes = codes_from (declared p i);
+  statics = filter_map static_declaration (declared p i);
+}
 
 -- ---- meanings
 
-abbrev meaning_of : ℕ × Content → World → Means (Unit {0})
-meaning_of (k, c) world = entering world k c.tree.statements (λ context. execute_all world context c.tree.statements)
+abbrev meaning_of : Codes → ℕ × Content → World → Means (Unit {0})
+meaning_of program (k, c) world = entering program k c.tree.statements (λ context. map (execute world context) c.tree.statements)
 
 abbrev meanings_by : List Content → Codes → Meanings
 meanings_by cs program = record {
-  files = map meaning_of (numbered_from 0 cs);
-  routines = map (λ (c : Placed). routine_in c.site.file c.code) program.codes;
+  files = map (meaning_of program) (numbered_from 0 cs);
+  routines = map (λ (c : Placed). routine_in program c.site.file c.code) program.codes;
 }
 
-files_mean : (k : ℕ) (fs : List File) →
-    map (λ f. λ world. run_file world f.0 f.1) (numbered_from k fs) ≡ map meaning_of (numbered_from k (map content fs))
-files_mean k [] = refl
-files_mean k (f ∷ fs) = λ i. (λ world. run_file world k f) ∷ files_mean (suc k) fs i
+files_mean : (program : Codes) (k : ℕ) (fs : List File) →
+    map (λ f. λ world. run_file program world f.0 f.1) (numbered_from k fs) ≡ map (meaning_of program) (numbered_from k (map content fs))
+files_mean program k [] = refl
+files_mean program k (f ∷ fs) = λ i. (λ world. run_file program world k f) ∷ files_mean program (suc k) fs i
 
 meanings_are : (p : Program) (program : Codes) → meanings_of p.files program ≡ meanings_by (map content p.files) program
 meanings_are p program = λ i. record {
-  files = files_mean 0 p.files i;
-  routines = map (λ (c : Placed). routine_in c.site.file c.code) program.codes;
+  files = files_mean program 0 p.files i;
+  routines = map (λ (c : Placed). routine_in program c.site.file c.code) program.codes;
 }
 
-abbrev php_by : List Content → ℕ → Seen
-php_by cs n = seen (run (codes_by cs) (meanings_by cs (codes_by cs)) n)
+abbrev php_by : List Content → ℕ → Outcome Stop
+php_by cs n = outcome_of (run (meanings_by cs (codes_by cs)) n)
 
 php_is : (p : Program) (n : ℕ) → php p n ≡ php_by (map content p.files) n
-php_is p n = (λ i. seen (run (codes_are p i) (meanings_of p.files (codes_are p i)) n))
-    ∙ (λ i. seen (run (codes_by (map content p.files)) (meanings_are p (codes_by (map content p.files)) i) n))
+php_is p n = (λ i. outcome_of (run (meanings_of p.files (codes_are p i)) n))
+    ∙ (λ i. outcome_of (run (meanings_are p (codes_by (map content p.files)) i) n))
 
 calls_are : (p : Program) (n : ℕ) → calls p n
     ≡ calls_by (declarations_by (map content p.files)) (codes_by (map content p.files)) (meanings_by (map content p.files) (codes_by (map content p.files))) n

@@ -9,7 +9,9 @@ use Rattle.hph_ast.specs.declared.stmt.Statement.{Statement, roll-Statement, out
 use Rattle.hph_ast.specs.declared.function.Function.{Function}
 use Rattle.hph_ast.specs.declared.program.Program.{Program}
 use Rattle.hph_php.specs.declared.fatal.Fatal.TheVariants.{Overflow}
-use Rattle.hph_php.specs.Answers.{Means, Done, Exit, FatalError, give, bind}
+use Rattle.hph_wasm.specs.Outcome.{Done, Stopped}
+use Rattle.hph_wasm.specs.Outcome as outcome
+use Rattle.hph_php.specs.Answers.{Means, give, bind, Exits, Fails}
 use Rattle.hph_php.specs.Codes.{all_builtins}
 use Rattle.hph_php.specs.Cost.{nodes, statement_nodes, program_nodes, cost}
 use Rattle.hph_php.specs.Declarations.{Codes, Declaration, declarations_in, codes_of, all_declarations, placed_at, site_at, a_body}
@@ -25,15 +27,15 @@ use Rattle.hph_program.proofs.Runs.{php_is, calls_are, int_is, text_is, variable
 use Rattle.hph_program.proofs.Runs as means
 
 -- what files of these statements mean, with routines
-abbrev one_file : List Statement → (World → Context → List (Means Way)) → List Routine → Meanings
-one_file ss m rs = record { files = (λ w. entering w 0 ss (λ c. block (m w c))) ∷ []; routines = rs }
+abbrev one_file : Codes → List Statement → (World → Context → List (Means Way)) → List Routine → Meanings
+one_file p ss m rs = record { files = (λ w. entering p 0 ss (λ c. m w c)) ∷ []; routines = rs }
 
-abbrev body_routine : Function → (World → Context → List (Means Way)) → Routine
-body_routine f m = a_function false (λ w. parameters w (in_body 0 None) f) (λ w. bind (block (m w (in_body 0 None))) (λ way. give (result_of way)))
+abbrev body_routine : Codes → Function → (World → Context → List (Means Way)) → Routine
+body_routine p f m = a_function (λ w. parameters w (in_body p 0 None) f) (λ w. bind (block (m w (in_body p 0 None))) (λ way. give (result_of way)))
 
 module _ (path : String Global) where
   abbrev code_of : List declaration.Placed → Codes
-  code_of cs = record { paths = string_bytes path ∷ []; classes = []; codes = cs }
+  code_of cs = record { paths = string_bytes path ∷ []; classes = []; codes = cs; statics = [] }
 
   -- ---- `<?php echo 1+2;`
 
@@ -53,15 +55,15 @@ module _ (path : String Global) where
   unfolding declarations_in
   sum_codes = simp trees
 
-  sum_meanings : meanings_of sum.files (code_of []) ≡ one_file sum_statements sum_means []
-  sum_meanings = λ i. one_file sum_statements (λ w c. (sum_is w c).is i) []
+  sum_meanings : meanings_of sum.files (code_of []) ≡ one_file (code_of []) sum_statements sum_means []
+  sum_meanings = λ i. one_file (code_of []) sum_statements (λ w c. (sum_is w c).is i) []
 
-  sum_prints : php sum 1 ≡ record { out = codes "3"; end = Some Done }
+  sum_prints : php sum 1 ≡ record { output = codes "3"; end = Done }
   unfolding out-Statement roll-Statement out roll digits
   sum_prints = php_is sum sum_codes sum_meanings 1 ∙ refl
 
   -- a unit is needed to enter the file
-  sum_needs_a_unit : php sum 0 ≡ record { out = []; end = None }
+  sum_needs_a_unit : php sum 0 ≡ record { output = []; end = outcome.More }
   unfolding out-Statement roll-Statement out roll digits
   sum_needs_a_unit = php_is sum sum_codes sum_meanings 0 ∙ refl
 
@@ -80,7 +82,7 @@ module _ (path : String Global) where
   abbrev empty : Program
   empty = record { files = file path 0 0 [] ∷ [] }
 
-  empty_prints : php empty 1 ≡ record { out = []; end = Some Done }
+  empty_prints : php empty 1 ≡ record { output = []; end = Done }
   empty_prints = refl
 
   -- ---- `<?php echo "x"; exit(300);`
@@ -102,10 +104,10 @@ module _ (path : String Global) where
   unfolding declarations_in
   exits_codes = simp trees
 
-  exits_meanings : meanings_of exits.files (code_of []) ≡ one_file exit_statements exits_means []
-  exits_meanings = λ i. one_file exit_statements (λ w c. (exits_is w c).is i) []
+  exits_meanings : meanings_of exits.files (code_of []) ≡ one_file (code_of []) exit_statements exits_means []
+  exits_meanings = λ i. one_file (code_of []) exit_statements (λ w c. (exits_is w c).is i) []
 
-  exits_prints : php exits 1 ≡ record { out = codes "x"; end = Some (Exit (pos 300)) }
+  exits_prints : php exits 1 ≡ record { output = codes "x"; end = Stopped (Exits (pos 300)) }
   unfolding out-Statement roll-Statement out roll
   exits_prints = php_is exits exits_codes exits_meanings 1 ∙ refl
 
@@ -135,15 +137,15 @@ module _ (path : String Global) where
   unfolding declarations_in
   counts_codes = simp trees
 
-  counts_meanings : meanings_of counts.files (code_of []) ≡ one_file count_statements counts_means []
-  counts_meanings = λ i. one_file count_statements (λ w c. (counts_is w c).is i) []
+  counts_meanings : meanings_of counts.files (code_of []) ≡ one_file (code_of []) count_statements counts_means []
+  counts_meanings = λ i. one_file (code_of []) count_statements (λ w c. (counts_is w c).is i) []
 
   -- a unit for the file, and one for each of three turns
-  counts_to_2 : php counts 4 ≡ record { out = codes "012"; end = Some Done }
+  counts_to_2 : php counts 4 ≡ record { output = codes "012"; end = Done }
   unfolding out-Statement roll-Statement out roll digits
   counts_to_2 = php_is counts counts_codes counts_meanings 4 ∙ refl
 
-  counts_to_1 : php counts 3 ≡ record { out = codes "01"; end = None }
+  counts_to_1 : php counts 3 ≡ record { output = codes "01"; end = outcome.More }
   unfolding out-Statement roll-Statement out roll digits
   counts_to_1 = php_is counts counts_codes counts_meanings 3 ∙ refl
 
@@ -203,21 +205,21 @@ module _ (path : String Global) where
   factorial_declares n d = simp trees
 
   factorial_meanings : (n d : ℕ) →
-      meanings_of (factorial n d).files fact_code ≡ one_file (fact_statements n d) (factorial_means n) (body_routine fact fact_means ∷ [])
+      meanings_of (factorial n d).files fact_code ≡ one_file fact_code (fact_statements n d) (factorial_means n) (body_routine fact_code fact fact_means ∷ [])
   unfolding out roll
   factorial_meanings n d = λ i.
-      one_file (fact_statements n d) (λ w c. (factorial_is n d w c).is i) (body_routine fact (λ w c. (fact_is w c).is i) ∷ [])
+      one_file fact_code (fact_statements n d) (λ w c. (factorial_is n d w c).is i) (body_routine fact_code fact (λ w c. (fact_is w c).is i) ∷ [])
 
   -- a unit for the file, and one for each of three calls
-  factorial_prints : php (factorial 3 1) 4 ≡ record { out = codes "6"; end = Some Done }
+  factorial_prints : php (factorial 3 1) 4 ≡ record { output = codes "6"; end = Done }
   unfolding out-Statement roll-Statement out roll digits all_builtins
   factorial_prints = php_is (factorial 3 1) (factorial_codes 3 1) (factorial_meanings 3 1) 4 ∙ refl
 
-  factorial_of_20 : php (factorial 20 2) 21 ≡ record { out = codes "2432902008176640000"; end = Some Done }
+  factorial_of_20 : php (factorial 20 2) 21 ≡ record { output = codes "2432902008176640000"; end = Done }
   unfolding out-Statement roll-Statement out roll digits all_builtins
   factorial_of_20 = php_is (factorial 20 2) (factorial_codes 20 2) (factorial_meanings 20 2) 21 ∙ refl
 
-  factorial_of_21 : php (factorial 21 2) 22 ≡ record { out = []; end = Some (FatalError Overflow) }
+  factorial_of_21 : php (factorial 21 2) 22 ≡ record { output = []; end = Stopped (Fails Overflow) }
   unfolding out-Statement roll-Statement out roll digits all_builtins
   factorial_of_21 = php_is (factorial 21 2) (factorial_codes 21 2) (factorial_meanings 21 2) 22 ∙ refl
 
@@ -271,22 +273,22 @@ module _ (path : String Global) where
       (and_done w c (echo_is w c 59 68 (call_is w c 64 67 (codes "f") (none_read w c))) (none_done w c)))
 
   abbrev counter_code : Codes
-  counter_code = code_of (placed_at 0 6 (a_body counter None false) ∷ [])
+  counter_code = record (code_of (placed_at 0 6 (a_body counter None false) ∷ [])) { statics = site_at 0 27 ∷ [] }
 
   remembers_codes : codes_of remembers ≡ counter_code
   unfolding declarations_in
   remembers_codes = simp trees
 
-  remembers_declares : all_declarations remembers ≡ (0, declaration.a_function counter) ∷ []
+  remembers_declares : all_declarations remembers ≡ (0, declaration.a_function counter) ∷ (0, declaration.a_static 27) ∷ []
   unfolding declarations_in
   remembers_declares = simp trees
 
-  remembers_meanings : meanings_of remembers.files counter_code ≡ one_file remember_statements remembers_means (body_routine counter counter_means ∷ [])
+  remembers_meanings : meanings_of remembers.files counter_code ≡ one_file counter_code remember_statements remembers_means (body_routine counter_code counter counter_means ∷ [])
   unfolding out roll
-  remembers_meanings = λ i. one_file remember_statements (λ w c. (remembers_is w c).is i) (body_routine counter (λ w c. (counter_is w c).is i) ∷ [])
+  remembers_meanings = λ i. one_file counter_code remember_statements (λ w c. (remembers_is w c).is i) (body_routine counter_code counter (λ w c. (counter_is w c).is i) ∷ [])
 
   -- the second call finds what the first left
-  remembers_prints : php remembers 3 ≡ record { out = codes "2"; end = Some Done }
+  remembers_prints : php remembers 3 ≡ record { output = codes "2"; end = Done }
   unfolding out-Statement roll-Statement out roll digits all_builtins
   remembers_prints = php_is remembers remembers_codes remembers_meanings 3 ∙ refl
 

@@ -12,7 +12,8 @@ use Rattle.hph_ast.specs.declared.program.File.{File}
 use Rattle.hph_ast.specs.declared.program.Program.{Program}
 use Rattle.hph_ast.specs.RefusedExpressions.{a_text, a_directory_path, part}
 use Rattle.hph_ast.specs.declared.stmt.Statement.{Statement, roll-Statement, out-Statement}
-use Rattle.hph_php.specs.Answers.{Means, Done, bind, give}
+use Rattle.hph_wasm.specs.Outcome.{Done}
+use Rattle.hph_php.specs.Answers.{Means, bind, give}
 use Rattle.hph_php.specs.Codes.{all_builtins}
 use Rattle.hph_php.specs.Declarations.{Codes, declarations_in, codes_of, all_declarations, placed_at, a_body}
 use Rattle.hph_php.specs.Declarations as declaration
@@ -106,6 +107,7 @@ module _ (m_path b_path : String Global) (m_is : string_bytes m_path ≡ codes "
     paths = codes "m.php" ∷ codes "b.php" ∷ [];
     classes = [];
     codes = placed_at 1 6 (a_body five None false) ∷ [];
+    statics = [];
   }
 
   two_files_codes : codes_of two_files ≡ two_codes
@@ -118,9 +120,9 @@ module _ (m_path b_path : String Global) (m_is : string_bytes m_path ≡ codes "
 
   abbrev two_meanings : (World → Context → List (Means Way)) → (World → Context → List (Means Way)) → (World → Context → List (Means Way)) → Meanings
   two_meanings m k f = record {
-    files = (λ w. entering w 0 main_statements (λ c. block (m w c))) ∷ (λ w. entering w 1 other_statements (λ c. block (k w c))) ∷ [];
-    routines = a_function false (λ w. parameters w (in_body 1 None) five)
-        (λ w. bind (block (f w (in_body 1 None))) (λ way. give (result_of way))) ∷ [];
+    files = (λ w. entering two_codes 0 main_statements (λ c. m w c)) ∷ (λ w. entering two_codes 1 other_statements (λ c. k w c)) ∷ [];
+    routines = a_function (λ w. parameters w (in_body two_codes 1 None) five)
+        (λ w. bind (block (f w (in_body two_codes 1 None))) (λ way. give (result_of way))) ∷ [];
   }
 
   two_files_meanings : meanings_of two_files.files two_codes ≡ two_meanings main_means (λ w c. means.declares w c (codes "h") 6 ∷ []) five_means
@@ -128,7 +130,7 @@ module _ (m_path b_path : String Global) (m_is : string_bytes m_path ≡ codes "
   two_files_meanings = λ i. two_meanings (λ w c. (main_is w c).is i) (λ w c. (other_is w c).is i) (λ w c. (five_is w c).is i)
 
   -- a unit for each file, and one for the call
-  two_files_print : php two_files 3 ≡ record { out = codes "15"; end = Some Done }
+  two_files_print : php two_files 3 ≡ record { output = codes "15"; end = Done }
   unfolding out-Statement roll-Statement out roll digits all_builtins
   two_files_print = php_is two_files two_files_codes two_files_meanings 3 ∙ refl
 

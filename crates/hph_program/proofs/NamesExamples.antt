@@ -47,7 +47,7 @@ module _ (path : String Global) where
 -- ---- `array_pop(1)` and `Array_Pop($a)`
 
 abbrev no_code : Codes
-no_code = record { paths = []; classes = []; codes = [] }
+no_code = record { paths = []; classes = []; codes = []; statics = [] }
 
 pop_of_a_number : wrong_arguments no_code (call 6 18 (codes "array_pop") (int 16 17 1 ∷ [])) ≡ int 16 17 1 ∷ []
 unfolding wrong_arguments

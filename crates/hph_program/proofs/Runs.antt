@@ -1,5 +1,6 @@
 -- How the run of a whole program is computed: from its code, its declarations and what they mean, each of which is computed first.
 use Rattle.std.specs.Prelude.{◌≡◌, ℕ, suc, ◌+◌, length, pos, List, [], ◌∷◌, map, Some, None, position}
+use Rattle.std.specs.List.{filter}
 use Rattle.std.proofs.Common.{◌∙◌, refl}
 use Rattle.std.specs.Option.{option_map_or}
 use Rattle.hph_ast.specs.declared.operator.Binary.{Binary}
@@ -15,7 +16,7 @@ use Rattle.hph_ast.specs.declared.program.Program.{Program}
 use Rattle.hph_php.specs.Values.{Int, Str}
 use Rattle.hph_php.specs.State.{Name, Site, is_site}
 use Rattle.hph_php.specs.Answers.{Means, bind, give, nothing, in_order}
-use Rattle.hph_php.specs.Declarations.{Codes, Declaration, codes_of, all_declarations, declaration_site, site_at}
+use Rattle.hph_php.specs.Declarations.{Codes, Declaration, codes_of, all_declarations, is_scope, declaration_site, static_number, site_at}
 use Rattle.hph_php.specs.World.{World, Context}
 use Rattle.hph_php.specs.Targets.{Reading, valued}
 use Rattle.hph_php.specs.Calls.{call_named}
@@ -23,7 +24,7 @@ use Rattle.hph_php.specs.Operations as o
 use Rattle.hph_php.specs.Expressions.{reading, with_form, form_of_run}
 use Rattle.hph_php.specs.Statements.{Way, Next, goes_on, block, branches, truth, loop, dropped, return_with, static_variable_with}
 use Rattle.hph_php.specs.Executions.{execute, function_statement}
-use Rattle.hph_php.specs.Run.{Meanings, meanings_of, run, seen, php, calls, last_state, site_numbered}
+use Rattle.hph_php.specs.Run.{Meanings, meanings_of, run, outcome_of, php, calls, last_state, site_numbered}
 use Rattle.hph_php.proofs.Levels.{reading_rolled, statement_rolled, function_rolled}
 use Rattle.hph_program.proofs.Trees as tree
 use Rattle.hph_program.proofs.Trees.{from_to, name_at}
@@ -62,7 +63,7 @@ module _ (w : World) (c : Context) where
   increment name = valued (o.moved_by c.class update.PostIncrement (o.variable name))
 
   abbrev pub call : Name → List Reading → Reading
-  call name xs = valued (call_named w c.class name xs)
+  call name xs = valued (call_named w c name xs)
 
   pub int_is : (s e n : ℕ) → Reads w c (tree.int s e n) (int n)
   int_is s e n = record { is = reading_rolled w c (Expr-F.Int (from_to s e) n) }
@@ -161,7 +162,7 @@ module _ (w : World) (c : Context) where
   }
 
   abbrev pub keeps : ℕ → Name → Reading → Means Way
-  keeps offset name x = goes_on (in_order (static_variable_with (site_at c.file offset) name (Some x.value) ∷ []))
+  keeps offset name x = goes_on (in_order (static_variable_with (static_number c.program (site_at c.file offset)) name (Some x.value) ∷ []))
 
   pub keeps_is : (s e k : ℕ) (name : Name) {x : Expr} {f : Reading} → Reads w c x f → Does w c (tree.static_variable s e k name x) (keeps k name f)
   keeps_is s e k name {x} p = record {
@@ -179,15 +180,15 @@ module _ (w : World) (c : Context) where
 -- ---- runs
 
 abbrev pub scope_by : List (ℕ × Declaration) → Site → ℕ
-scope_by ds site = option_map_or suc (position (λ d. is_site site (declaration_site d)) ds) 0
+scope_by ds site = option_map_or suc (position (λ d. is_site site (declaration_site d)) (filter (λ d. is_scope d.1) ds)) 0
 
 abbrev pub calls_by : List (ℕ × Declaration) → Codes → Meanings → ℕ → List ℕ
 calls_by ds codes meanings n =
-    map (λ number. option_map_or (scope_by ds) (site_numbered codes number) 0) (last_state (run codes meanings n)).called
+    map (λ number. option_map_or (scope_by ds) (site_numbered codes number) 0) (last_state (run meanings n)).called
 
 module _ (p : Program) {codes : Codes} {meanings : Meanings} where
-  pub php_is : codes_of p ≡ codes → meanings_of p.files codes ≡ meanings → (n : ℕ) → php p n ≡ seen (run codes meanings n)
-  php_is cs ms n = (λ i. seen (run (cs i) (meanings_of p.files (cs i)) n)) ∙ (λ i. seen (run codes (ms i) n))
+  pub php_is : codes_of p ≡ codes → meanings_of p.files codes ≡ meanings → (n : ℕ) → php p n ≡ outcome_of (run meanings n)
+  php_is cs ms n = (λ i. outcome_of (run (meanings_of p.files (cs i)) n)) ∙ (λ i. outcome_of (run (ms i) n))
 
   pub calls_are : {ds : List (ℕ × Declaration)} → codes_of p ≡ codes → all_declarations p ≡ ds → meanings_of p.files codes ≡ meanings → (n : ℕ) →
       calls p n ≡ calls_by ds codes meanings n

@@ -31,7 +31,8 @@ use Rattle.hph_ast.specs.RefusedExpressions.{Context as Place, Refused, Part, pa
 use Rattle.hph_ast.specs.RefusedStatements.{MemberPart, FunctionPart, statement_refused, member_part, statement_part, class_part, function_part, case_part, else_if_part, top_level, first_found, tree_construct}
 use Rattle.hph_ast.proofs.TokenExamples.{echo_of_an_int, semicolon_at}
 use Rattle.hph_ast.proofs.ExpressionExamples.{int}
-use Rattle.hph_php.specs.Answers.{Means, Done}
+use Rattle.hph_wasm.specs.Outcome.{Done}
+use Rattle.hph_php.specs.Answers.{Means}
 use Rattle.hph_php.specs.Declarations.{Codes, codes_of, declarations_in}
 use Rattle.hph_php.specs.World.{World, Context}
 use Rattle.hph_php.specs.Statements.{Way, block}
@@ -166,19 +167,19 @@ module _ (path : String Global) (path_is : string_bytes path ≡ codes "m.php") 
   }) (none_done w c)
 
   abbrev three_code : Codes
-  three_code = record { paths = string_bytes path ∷ []; classes = []; codes = [] }
+  three_code = record { paths = string_bytes path ∷ []; classes = []; codes = []; statics = [] }
 
   three_codes : codes_of numbered_program ≡ three_code
   unfolding declarations_in
   three_codes = simp trees
 
   abbrev one_file : (World → Context → List (Means Way)) → Meanings
-  one_file m = record { files = (λ w. entering w 0 numbered_statements (λ c. block (m w c))) ∷ []; routines = [] }
+  one_file m = record { files = (λ w. entering three_code 0 numbered_statements (λ c. m w c)) ∷ []; routines = [] }
 
   three_meanings : meanings_of numbered_program.files three_code ≡ one_file prints_three
   three_meanings = λ i. one_file (λ w c. (three_is w c).is i)
 
   -- from the bytes of the file to what they print
-  three_prints : php program 1 ≡ record { out = codes "3"; end = Some Done }
+  three_prints : php program 1 ≡ record { output = codes "3"; end = Done }
   unfolding out-Statement roll-Statement out roll digits
   three_prints = (λ i. php (record { files = sites_of_three i }) 1) ∙ php_is numbered_program three_codes three_meanings 1 ∙ refl

@@ -47,7 +47,7 @@ share_name _ _ = false
 abbrev pub params_of : Declaration → List Param
 params_of (a_function f) = (out-Function f).params
 params_of (a_method class is_static f) = (out-Function f).params
-params_of (a_class c) = []
+params_of _ = []
 
 -- declarations of one name agree on a position that both have
 abbrev pub AgreeOnReferences : Program → Type 0
