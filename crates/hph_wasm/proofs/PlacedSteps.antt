@@ -4,12 +4,13 @@ use Rattle.std.specs.Prelude.{nat_eq, nat_le, slice_get}
 use Rattle.hph_wasm.specs.declared.instr.Instr.{Instr, Call}
 use Rattle.hph_wasm.specs.declared.types.FuncType.{FuncType}
 use Rattle.hph_wasm.specs.declared.value.Value.{Value}
+use Rattle.hph_wasm.specs.declared.module.Func.{Func}
 use Rattle.hph_wasm.specs.declared.module.Module.{Module}
 use Rattle.hph_wasm.specs.Functions.{Function, Imported, Defined, functions, type_number}
 use Rattle.hph_wasm.specs.Configuration.{Reply, Goes, Stops, Host, Label, Frame, Store, Setting, Configuration, Running, Calling, Trapped, Stuck, Ended}
 use Rattle.hph_wasm.specs.Reduction.{Arguments, arguments, results, reply_of, with_host, after_call, after_return, end_of_function, end_of_code, return_step, branch_step, function_frame, after_reply, invocation_of, step, reduce}
 use Rattle.hph_wasm.specs.Opcodes.{EndOfCode, opcodes}
-use Rattle.hph_wasm.specs.Standing.{Stands, FramesStand, StandsIn, StandsBehind, IsTrapAt, IsPlaced, RunsStand, TrapsAreAtOpcodes}
+use Rattle.hph_wasm.specs.Standing.{Stands, FramesStand, StandsIn, StandsBehind, IsTrapAt, IsPlaced, RunsStand, TrapsAreAtOpcodes, TrapsHaveOnePlace}
 use Rattle.hph_wasm.specs.Outcome.{Trap}
 use Rattle.hph_wasm.specs.Place.{size_outside, body_size, trap_before}
 use Rattle.hph_wasm.specs.Rows.{list_size}
@@ -189,3 +190,24 @@ module _ (m : Module) {H E : Type 0} (host : Host H E) where
 
   pub traps_at_opcodes : TrapsAreAtOpcodes host m
   traps_at_opcodes state main n code at reached = subst Placed reached (runs_stand state main n)
+
+  -- As many opcodes are left in both places, so the same number stands before.
+  pub traps_have_one_place : TrapsHaveOnePlace host m
+  traps_have_one_place code labels f j k (func, there, front, tail, is, long, outside) (func', there', front', tail', is', long', outside') =
+      let same : func ≡ func' = cc in
+      let sizes : length (opcodes func.body ++ EndOfCode ∷ []) ≡ length (opcodes func'.body ++ EndOfCode ∷ []) =
+      ap (λ (func : Func). length (opcodes func.body ++ EndOfCode ∷ [])) same in
+      omega (
+        arith,
+        sizes,
+        long,
+        long',
+        ap length is,
+        ap length is',
+        length-append front (opcodes code ++ tail),
+        length-append front' (opcodes code ++ tail'),
+        length-append (opcodes code) tail,
+        length-append (opcodes code) tail',
+        Outside-length (opcodes func.body ++ EndOfCode ∷ []) labels tail outside,
+        Outside-length (opcodes func'.body ++ EndOfCode ∷ []) labels tail' outside',
+      )

@@ -79,3 +79,8 @@ abbrev pub TrapsAreAtOpcodes : {H E : Type 0} → Host H E → Module → Type 0
 TrapsAreAtOpcodes {H} {E} host m = (state : H) (main n : ℕ) (code : List Instr) (at : Setting H) →
     reduce host m n (start state m main) ≡ Trapped code at →
     (i : Instr) × (rest : List Instr) × (code ≡ i ∷ rest) × IsTrapAt {E = E} m code at.labels (trap_at m code at)
+
+-- What is left fixes the place: another of the same opcode is no place of the trap.
+abbrev pub TrapsHaveOnePlace : {H E : Type 0} → Host H E → Module → Type 0
+TrapsHaveOnePlace {H} {E} host m = (code : List Instr) (labels : List Label) (f j k : ℕ) → IsTrapAt {E = E} m code labels (Trap f j) →
+    IsTrapAt {E = E} m code labels (Trap f k) → j ≡ k

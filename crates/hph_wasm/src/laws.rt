@@ -8,7 +8,7 @@ ghost use Rattle.hph_wasm.specs.Configuration.{Host, Configuration};
 ghost use Rattle.hph_wasm.specs.Reduction.{reduce};
 ghost use Rattle.hph_wasm.specs.Blocks.{BlocksAddTwo, BlocksAreSequences, BlocksAreEntered, LoopsAddTwo, LoopsAreSequences, LoopsAreEntered, IfsAddTwo, IfsAreSequences, IfsAreEntered, EmptyLabelsAreLeft, EmptyFramesAreLeft, EmptyFramesEnd};
 ghost use Rattle.hph_wasm.specs.Run.{wasm, invoked, IsEntering, IsLinked, HasOneObstacle, NeverTakesBack};
-ghost use Rattle.hph_wasm.specs.Standing.{RunsStand, TrapsAreAtOpcodes};
+ghost use Rattle.hph_wasm.specs.Standing.{RunsStand, TrapsAreAtOpcodes, TrapsHaveOnePlace};
 ghost use Rattle.hph_wasm.specs.Safety.{RunsFit, IsNeverStuck};
 ghost use Rattle.hph_wasm.specs.ModuleValidity.{IsValid};
 ghost use Rattle.hph_wasm.specs.Faults.{HasOneFault, HasOneFirst};
@@ -128,9 +128,10 @@ pub fn runs_stand<H: AnyHost>()
 {}
 
 /// Where a run has trapped, the place that is seen is the function that runs and how many opcodes of its body stand before the
-/// instruction's; that and what is left make up the body.
+/// instruction's; that and what is left make up the body, so there is one such place.
 pub fn traps_are_at_opcodes<H: AnyHost>()
-    ensures { (host : Host H.State H.Stop) (m : Module) → TrapsAreAtOpcodes host m }
+    ensures placed { (host : Host H.State H.Stop) (m : Module) → TrapsAreAtOpcodes host m }
+    ensures one_place { (host : Host H.State H.Stop) (m : Module) → TrapsHaveOnePlace host m }
 {}
 
 /// One obstacle at most is the first that keeps a module from running, and none does where it is linked and its segments fit.
