@@ -18,8 +18,6 @@ mod fatal_table;
 mod import_table;
 mod opcode_table;
 mod operator_table;
-#[cfg(test)]
-mod tests;
 
 pub use builtin_table::builtins;
 pub use cases::{Cases, Row};

@@ -7,8 +7,6 @@
 
 mod laws;
 mod signed;
-#[cfg(test)]
-mod tests;
 mod unsigned;
 
 pub use laws::{

@@ -10,8 +10,6 @@ mod products;
 mod quotients;
 mod shifts;
 mod sums;
-#[cfg(test)]
-mod tests;
 
 pub use fault::NumFault;
 pub use products::{mul, mul_overflows, pow};

@@ -10,8 +10,6 @@ mod builtin;
 mod fatal;
 mod laws;
 mod operator;
-#[cfg(test)]
-mod tests;
 
 pub use builtin::Builtin;
 pub use fatal::Fatal;

@@ -22,6 +22,3 @@ pub use object::ObjPart;
 pub use sites::SiteTypes;
 pub use tree::ClassTree;
 pub use ty::Ty;
-
-#[cfg(test)]
-mod tests;

@@ -1,4 +1,4 @@
-use super::*;
+use hph_php::{BinOp, Builtin, Fatal, UnOp};
 
 #[test]
 fn finds_kinds_of_fatal_errors_by_their_codes(rt: HostRuntime) {

@@ -1,5 +1,5 @@
-use super::*;
-use NumFault::{DivZero, NegativeShift, NotWhole, Overflow};
+use hph_num::NumFault::{DivZero, NegativeShift, NotWhole, Overflow};
+use hph_num::{add, div, mul, mul_overflows, neg, pow, rem, shl, shr, sub};
 
 #[test]
 fn adds_and_subtracts_within_64_bits(rt: HostRuntime) {

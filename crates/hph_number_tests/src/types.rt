@@ -1,6 +1,6 @@
 ghost use Rattle.std.specs.Prelude.{◌≡◌, IfOk, Some, None, [], ◌∷◌};
 
-use crate::{ClassTree, Kind, ObjPart, Ty, code, join, leq, meet, of_code};
+use hph_type::{ClassTree, Kind, ObjPart, Ty, code, join, leq, meet, of_code};
 use std::alloc::{AllocError, Global};
 use std::test::Fail;
 
@@ -30,7 +30,7 @@ fn tells_the_classes_of_a_tree(rt: HostRuntime) -> Result<(), Fail> {
 }
 
 #[test]
-#[tactic(auto, unfolding(crate::specs::Order::IsOf))]
+#[tactic(auto, unfolding(hph_type::specs::Order::IsOf))]
 fn joins_to_the_nearest_common_ancestor(rt: HostRuntime) -> Result<(), Fail> {
     let tree = five_classes(rt.alloc())?;
     let (c, e) = (Ty::object(ObjPart::Of(2)), Ty::object(ObjPart::Of(4)));
@@ -43,7 +43,7 @@ fn joins_to_the_nearest_common_ancestor(rt: HostRuntime) -> Result<(), Fail> {
 }
 
 #[test]
-#[tactic(auto, unfolding(crate::specs::Order::IsOf))]
+#[tactic(auto, unfolding(hph_type::specs::Order::IsOf))]
 fn meets_at_the_lower_class(rt: HostRuntime) -> Result<(), Fail> {
     let tree = five_classes(rt.alloc())?;
     let (b, e) = (Ty::object(ObjPart::Of(1)), Ty::object(ObjPart::Of(4)));

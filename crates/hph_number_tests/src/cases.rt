@@ -1,4 +1,4 @@
-use super::*;
+use hph_case::{builtins, fatals, imports, opcodes, operators};
 
 #[test]
 fn finds_opcodes_by_their_bytes(rt: HostRuntime) {

@@ -1,6 +1,6 @@
 //! Spellings from elsewhere: of the notes in the Core Specification 1.0, 5.2.2, of Wikipedia's page on LEB128 (624485
 //! and -123456), and bounds worked out by hand.
-use crate::{get_i32, get_i64, get_u32, put_i32, put_i64, put_u32};
+use hph_leb::{get_i32, get_i64, get_u32, put_i32, put_i64, put_u32};
 use std::test::Fail;
 
 #[test]

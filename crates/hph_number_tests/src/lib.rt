@@ -1,0 +1,13 @@
+//! Tests of the libraries of whole numbers, tables, LEB128, types and operators.
+#![tactic(auto)]
+
+#[cfg(test)]
+mod cases;
+#[cfg(test)]
+mod codes;
+#[cfg(test)]
+mod leb128;
+#[cfg(test)]
+mod types;
+#[cfg(test)]
+mod whole_numbers;
