@@ -2,11 +2,17 @@
 //! the values that its operands are.
 #![tactic(auto)]
 
+mod arrays;
+mod moves;
 mod numbers;
 mod orders;
+mod texts;
 
+pub use arrays::append;
+pub use moves::{decremented, incremented};
 pub use numbers::{
     bit_and, bit_or, bit_xor, difference, negation, power, product, quotient, remainder,
     shift_left, shift_right, sum,
 };
 pub use orders::order;
+pub use texts::joined_onto;
