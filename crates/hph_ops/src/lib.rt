@@ -3,12 +3,15 @@
 #![tactic(auto)]
 
 mod arrays;
+mod casts;
 mod moves;
 mod numbers;
 mod orders;
 mod texts;
+mod unions;
 
 pub use arrays::append;
+pub use casts::unary;
 pub use moves::{decremented, incremented};
 pub use numbers::{
     bit_and, bit_or, bit_xor, difference, negation, power, product, quotient, remainder,
@@ -16,3 +19,4 @@ pub use numbers::{
 };
 pub use orders::order;
 pub use texts::joined_onto;
+pub use unions::union;
