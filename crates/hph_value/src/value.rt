@@ -1,8 +1,8 @@
 //! Values as programs hold them.
-ghost use Rattle.std.specs.Prelude.{◌≡◌, ◌<◌, IfOk, IfSome};
+ghost use Rattle.std.specs.Prelude.{◌≡◌, ◌<◌, IfOk, IfErr, IfSome};
 ghost use Rattle.std.specs.List.{sum_by};
 ghost use Rattle.hph_array.specs.Array.{array_map};
-ghost use Rattle.hph_php.specs.Values.{array_value};
+ghost use Rattle.hph_php.specs.Values.{Str, array_value};
 ghost use Rattle.hph_value.specs.declared.value.Value.{size-Value};
 ghost use Rattle.hph_value.specs.Shown.{value_of};
 ghost use Rattle.hph_value.specs.Weights.{weight, deepest};
@@ -90,6 +90,30 @@ impl Value {
                     None
                 }
             },
+        }
+    }
+
+    /// The bytes of a string, which aren't copied; else the value itself.
+    #[tactic(auto, using(crate::proofs::Shown::shown))]
+    pub fn into_string(self) -> Result<Bytes, Value>
+        ensures ok { IfOk result (λ bytes. value_of self ≡ Str bytes) }
+        ensures err { IfErr result (λ value. value ≡ self) }
+    {
+        match self {
+            Value::Str(bytes) => Ok(bytes),
+            other => Err(other),
+        }
+    }
+
+    /// The pairs of an array, which aren't copied; else the value itself.
+    #[tactic(auto, using(crate::proofs::Shown::shown))]
+    pub fn into_elements(self) -> Result<Shared<Elements<Value>>, Value>
+        ensures ok { IfOk result (λ elements. value_of self ≡ array_value (array_map value_of elements.map)) }
+        ensures err { IfErr result (λ value. value ≡ self) }
+    {
+        match self {
+            Value::Arr(elements) => Ok(elements),
+            other => Err(other),
         }
     }
 
