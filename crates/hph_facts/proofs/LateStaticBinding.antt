@@ -168,3 +168,63 @@ counted =
 counted_ends : (path : String Global) → EndsWith (program ((path, counted) ∷ [])) 3 (codes "33") Done
 unfolding out roll out-Statement roll-Statement out-Member roll-Member digits all_builtins
 counted_ends path = one_file path counted (function_code counted_c_up, (value_code (int 2), (value_code (int 1), (initial_values_code [], (initial_values_code [], tt))))) 3 refl refl
+
+-- A method that isn't static, called by a class's name, keeps the object's class as the late static class; three calls:
+-- `class A { public function make() { return new static(); } public function who() { return "A"; } } class B extends A { public function up() { return A::make(); } public function who() { return "B"; } } echo (new B())->up()->who();`
+abbrev kept_a_make : KnownFunction
+kept_a_make = record {
+  start = 23;
+  name = codes "make";
+  params = [];
+  statements = gives (Some (new static_class [])) ∷ [];
+}
+
+abbrev kept_a_who : KnownFunction
+kept_a_who = record {
+  start = 71;
+  name = codes "who";
+  params = [];
+  statements = gives (Some (text (codes "A"))) ∷ [];
+}
+
+abbrev kept_class_a : KnownClassDeclaration
+kept_class_a = record {
+  start = 6;
+  name = codes "A";
+  parent = None;
+  members = with_method (record { access = Some access.Public; is_static = false }) kept_a_make ∷ with_method (record { access = Some access.Public; is_static = false }) kept_a_who ∷ [];
+}
+
+abbrev kept_b_up : KnownFunction
+kept_b_up = record {
+  start = 131;
+  name = codes "up";
+  params = [];
+  statements = gives (Some (static_call (by_name (codes "A")) (codes "make") [])) ∷ [];
+}
+
+abbrev kept_b_who : KnownFunction
+kept_b_who = record {
+  start = 174;
+  name = codes "who";
+  params = [];
+  statements = gives (Some (text (codes "B"))) ∷ [];
+}
+
+abbrev kept_class_b : KnownClassDeclaration
+kept_class_b = record {
+  start = 104;
+  name = codes "B";
+  parent = Some (codes "A");
+  members = with_method (record { access = Some access.Public; is_static = false }) kept_b_up ∷ with_method (record { access = Some access.Public; is_static = false }) kept_b_who ∷ [];
+}
+
+abbrev kept : List KnownStatement
+kept =
+    declares_class kept_class_a ∷
+    declares_class kept_class_b ∷
+    shows (method_call (method_call (paren (new (by_name (codes "B")) [])) (codes "up") []) (codes "who") [] ∷ []) ∷ []
+
+kept_ends : (path : String Global) → EndsWith (program ((path, kept) ∷ [])) 4 (codes "B") Done
+unfolding out roll out-Statement roll-Statement out-Member roll-Member digits all_builtins
+kept_ends path = one_file path kept (function_code kept_a_make, (function_code kept_a_who, (function_code kept_b_up, (function_code kept_b_who, (initial_values_code [], (initial_values_code [], tt)))))) 4 refl refl

@@ -24,5 +24,6 @@ pub mod Expressions
 pub mod Statements
 pub mod Executions
 pub mod Files
+pub mod Invariants
 pub mod Run
 pub mod Cost

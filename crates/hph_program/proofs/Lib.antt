@@ -10,3 +10,4 @@ pub mod SourceExamples
 pub mod Faultless
 pub mod Closed
 pub mod NamesExamples
+pub mod PlacesExamples
