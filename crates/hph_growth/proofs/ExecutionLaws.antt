@@ -1,5 +1,5 @@
 -- What a statement means keeps that answers stay, by induction on its tree.
-use Rattle.std.proofs.Common.{◌≡◌, ℕ, List, [], ◌∷◌, ◌∙◌, map, refl, sym, subst}
+use Rattle.std.proofs.Common.{◌≡◌, ℕ, List, [], ◌∷◌, ◌∙◌, map, sym, subst}
 use Rattle.std.specs.Prelude.{Option, None, Some, position, slice_get}
 use Rattle.std.specs.Option.{option_map, option_map_or}
 use Rattle.hph_ast.specs.declared.token.Identifier.{Identifier}
@@ -31,7 +31,7 @@ use Rattle.hph_growth.proofs.Worlds.{Worlds, earlier, later}
 use Rattle.hph_growth.proofs.CallLaws.{OptionGrows, neither, each_one}
 use Rattle.hph_growth.proofs.OperationLaws.{echo_grows}
 use Rattle.hph_growth.proofs.StatementLaws.{goes_on_grows, block_grows, truth_grows, BranchesGrow, no_branch, one_branch, branches_grow, loop_grows, loop_after_grows, for_grows, dropped_grows, foreach_grows, CaseGrows, CasesGrow, no_case, one_case, switch_grows, static_grows, unset_grows, define_grows, return_grows}
-use Rattle.hph_growth.proofs.Levels.{class_place, function_place, case_meaning, branch_meaning, statement_parts, case_parts, branch_parts, statement_rolled, class_place_rolled, function_rolled, case_rolled, branch_rolled}
+use Rattle.hph_php.proofs.Levels.{class_place, function_place, case_meaning, branch_meaning, statement_parts, case_parts, branch_parts, statement_rolled, class_place_rolled, function_rolled, case_rolled, branch_rolled}
 use Rattle.hph_growth.proofs.ExpressionLaws.{reading_grows, evaluate_grows}
 
 -- ---- declarations

@@ -29,7 +29,7 @@ use Rattle.hph_growth.proofs.Worlds.{Worlds, earlier, later}
 use Rattle.hph_growth.proofs.CallLaws.{call_named_grows}
 use Rattle.hph_growth.proofs.ClassLaws.{ChoiceGrows, ChoicesGrow, no_choice, one_choice, named_class_grows, self_class_grows, parent_class_grows, static_class_grows, call_method_grows, call_static_grows, new_grows, class_constant_grows, static_location_grows}
 use Rattle.hph_growth.proofs.OperationLaws.{constant_grows, variable_grows, share_grows, RunGrows, no_operator, one_operator, run_grows, pair_grows, ternary_grows, short_ternary_grows, exit_grows, prefix_grows, instances_grow, assignment_grows, moved_grows, add_last_grows, add_keyed_grows, text_grows}
-use Rattle.hph_growth.proofs.Levels.{class_meaning, item_meaning, member_meaning, step_meaning, part_meaning, expr_meant, class_meant, item_meant, member_meant, step_meant, part_meant, expr_rolled, class_rolled, item_rolled, member_rolled, step_rolled, part_rolled}
+use Rattle.hph_php.proofs.Levels.{class_meaning, item_meaning, member_meaning, step_meaning, part_meaning, expr_meant, class_meant, item_meant, member_meant, step_meant, part_meant, reading_rolled, class_rolled, item_rolled, member_rolled, step_rolled, part_rolled}
 
 -- ---- paths
 
@@ -262,7 +262,7 @@ module _ (ws : Worlds) (context : Context) where
   expr_made : (x : ExprLayer) (y : Expr-F HeldClass HeldExpr HeldItem HeldMember HeldStep HeldPart) → bare_expr y ≡ x →
       ExprHolds (roll-Expr x)
   expr_made x y is = subst (λ d. ExprHolds (roll-Expr d)) is
-      (by_both ReadingGrows (expr_rolled before context (bare_expr y)) (expr_rolled after context (bare_expr y)) (expr_level y))
+      (by_both ReadingGrows (reading_rolled before context (bare_expr y)) (reading_rolled after context (bare_expr y)) (expr_level y))
 
   class_made : (x : ClassLayer) (y : ClassReference-F HeldClass HeldExpr HeldItem HeldMember HeldStep HeldPart) → bare_class y ≡ x →
       ClassHolds (roll-ClassReference x)

@@ -7,7 +7,6 @@ pub mod CallLaws
 pub mod ClassLaws
 pub mod OperationLaws
 pub mod StatementLaws
-pub mod Levels
 pub mod ExpressionLaws
 pub mod ExecutionLaws
 pub mod RunLaws

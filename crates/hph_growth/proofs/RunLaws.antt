@@ -1,5 +1,5 @@
 -- Files and runs keep that answers stay: what one more unit changes of a program's output and calls.
-use Rattle.std.proofs.Common.{◌≡◌, ◌+◌, ◌-◌, ◌≤◌, ℕ, zero, suc, List, [], ◌∷◌, ◌++◌, ◌∙◌, map, refl, sym, ap, subst, arith}
+use Rattle.std.proofs.Common.{◌≡◌, ◌+◌, ◌-◌, ◌≤◌, ℕ, zero, suc, List, [], ◌∷◌, ◌∙◌, map, refl, sym, ap, subst, arith}
 use Rattle.std.specs.Prelude.{Bool, Option, None, Some, slice_get, true, false}
 use Rattle.std.specs.Option.{option_map_or}
 use Rattle.hph_ast.specs.declared.expr.Expr.{Expr}

@@ -1,12 +1,11 @@
 -- What keeps that which was printed and called.
-use Rattle.std.proofs.Common.{◌≡◌, ℕ, List, [], refl, sym, ◌∙◌}
+use Rattle.std.proofs.Common.{◌≡◌, [], refl, sym, ◌∙◌}
 use Rattle.std.proofs.lemmas.List.{append-nil}
 use Rattle.std.specs.Prelude.{Bool, true, false, Option, None, Some, Result}
 use Rattle.hph_array.specs.declared.key.Key.{Key}
 use Rattle.hph_php.specs.declared.fatal.Fatal.{Fatal}
 use Rattle.hph_php.specs.Values.{Value}
-use Rattle.hph_php.specs.Conversions.{value_of_key}
-use Rattle.hph_php.specs.State.{State, Heap, Places, Variables, Located, Name, on_located, set_variable}
+use Rattle.hph_php.specs.State.{State, Heap, Places, Variables, Located, Name, on_located}
 use Rattle.hph_php.specs.Statements.{set_element, global_variable}
 use Rattle.hph_php.specs.Answers.{change, change_heap, change_places, remake_heap}
 use Rattle.hph_growth.specs.Growth.{Before, Grows}

@@ -11,7 +11,7 @@ use Rattle.hph_php.specs.Answers.{Means, bind, nothing, change}
 use Rattle.hph_php.specs.Targets.{Reading, Form, plain_variable, a_path, from_directory, another}
 use Rattle.hph_php.specs.Statements.{Way, Next, Breaks, Continues, Returns, goes_on, next_by, both, block, truth, choose, branches, after_turn, turn, turn_if, lacking, turns, loop, loop_after, tests, dropped, all_dropped, for_loop, set_element, each_pair, turns_of, foreach_in, foreach, Case, bodies, default_bodies, pick_if, pick, switch, static_variable_with, unset_by, define_constant, return_with}
 use Rattle.hph_growth.specs.Growth.{Grows}
-use Rattle.hph_growth.proofs.GrowthLaws.{EachGrows, none, one_more, before_itself, give_grows, nothing_grows, settle_grows, bind_grows, first_grows, by_state_grows, spend_grows, lacking_grows, in_order_grows, if_grows, option_grows}
+use Rattle.hph_growth.proofs.GrowthLaws.{EachGrows, none, one_more, before_itself, give_grows, nothing_grows, settle_grows, bind_grows, first_grows, by_state_grows, spend_grows, lacking_grows, in_order_grows, if_grows}
 use Rattle.hph_growth.proofs.StateLaws.{same_grows, located_grows, change_heap_grows, set_element_same}
 use Rattle.hph_growth.proofs.WriteLaws.{unset_from_grows}
 use Rattle.hph_growth.proofs.TargetLaws.{ReadingGrows, alike, formed, along_grows}

@@ -5,10 +5,10 @@ use Rattle.hph_php.specs.declared.fatal.Fatal.{Fatal}
 use Rattle.hph_php.specs.Values.{Value}
 use Rattle.hph_php.specs.State.{State, Heap, on_core, on_heap, with_objects}
 use Rattle.hph_php.specs.Paths.{PathStep, Written, Stored, assign_at, unset_path}
-use Rattle.hph_php.specs.Targets.{Base, a_variable, a_location, a_value, at_base, set_base, set_if, stored, store, write_to, unset_from}
+use Rattle.hph_php.specs.Targets.{Base, a_variable, a_location, a_value, at_base, set_if, stored, store, write_to, unset_from}
 use Rattle.hph_growth.specs.Growth.{Grows}
 use Rattle.hph_growth.proofs.GrowthLaws.{give_grows, settle_grows, bind_grows, first_grows, by_state_grows}
-use Rattle.hph_growth.proofs.StateLaws.{Same, same_itself, same_grows}
+use Rattle.hph_growth.proofs.StateLaws.{Same, same_grows}
 
 set_if_same : (base : Base) (value : Option Value) (before st : State) → Same before st → Same before (set_if base value st)
 set_if_same base None before st p = p

@@ -1,6 +1,6 @@
 -- What a part of a program does with units and a state, and how parts are joined. An answer is a value with the units and the
 -- state that are left, a stop of the run, or More: a unit was needed and none was left. This project's own.
-use Rattle.std.specs.Prelude.{ℕ, zero, suc, ℤ, List, [], ◌∷◌, Option, None, Some, Result, Ok, Err}
+use Rattle.std.specs.Prelude.{ℕ, zero, suc, ℤ, List, [], ◌∷◌, Result, Ok, Err}
 use Rattle.hph_php.specs.declared.fatal.Fatal.{Fatal}
 use Rattle.hph_php.specs.State.{State, Heap, Places, on_core, on_heap, on_places, printed}
 

@@ -1,6 +1,6 @@
 -- Calls of functions (PHP manual, User-defined functions, Function arguments). A call looks up its function before its
 -- arguments. More arguments than parameters are dropped, and too few are a fatal error after the arguments were evaluated.
-use Rattle.std.specs.Prelude.{ℕ, zero, suc, Bool, true, false, List, [], ◌∷◌, ◌++◌, length, nat_lt, Option, None, Some, Result, Ok, Err, if◌then◌else◌, pos}
+use Rattle.std.specs.Prelude.{ℕ, zero, suc, Bool, true, false, List, [], ◌∷◌, ◌++◌, length, nat_lt, Option, None, Some, Result, Ok, if◌then◌else◌, pos}
 use Rattle.std.specs.Option.{unwrap_or, option_map_or, ok_or}
 use Rattle.hph_php.specs.declared.fatal.Fatal.{Fatal}
 use Rattle.hph_php.specs.declared.fatal.Fatal.TheVariants.{TooFewArguments, BadArgument, UndefinedFunction}

@@ -8,7 +8,7 @@ use Rattle.hph_php.specs.Values.{Value, Boolean, Obj}
 use Rattle.hph_php.specs.Conversions.{and_then, map_ok}
 use Rattle.hph_php.specs.State.{State, Heap, Class, Name, with_named, class_named, class_numbered, class_of, class_of_object, next_object, object_in, write_at, place_static, placed_static, initial_due, late_class, this_object}
 use Rattle.hph_php.specs.Members.{Declared, is_kind_of, lineage, method_of, seen, method_for, constant_for, static_property_for}
-use Rattle.hph_php.specs.Answers.{Means, bind, first, give, fail, look, by_state, by_heap, change_heap, change_places, settle}
+use Rattle.hph_php.specs.Answers.{Means, bind, first, give, look, by_state, by_heap, change_heap, change_places, settle}
 use Rattle.hph_php.specs.World.{World, Context, Receiver, a_class, an_object}
 use Rattle.hph_php.specs.Targets.{Reading}
 use Rattle.hph_php.specs.Calls.{arguments}

@@ -1,9 +1,9 @@
 -- What holds of each state of a run, and lowering takes for granted: what is declared is what the program declares, each object is
 -- of a declared class, and what a frame's code is called on fits that code. This project's own.
-use Rattle.std.specs.Prelude.{◌≡◌, ℕ, true, false, List, [], All, is_some, slice_get, Option, None, Some}
+use Rattle.std.specs.Prelude.{◌≡◌, ℕ, true, false, All, is_some, slice_get, Option, None, Some}
 use Rattle.hph_ast.specs.declared.function.Function.{Function, out-Function}
 use Rattle.hph_php.specs.Values.{Obj}
-use Rattle.hph_php.specs.State.{Name, Object, Class, Heap, Frame, State, folded, class_of, class_numbered, empty_state}
+use Rattle.hph_php.specs.State.{Name, Object, Class, Heap, Frame, State, folded, class_of, class_numbered}
 use Rattle.hph_php.specs.Members.{is_kind_of}
 use Rattle.hph_php.specs.Declarations.{Codes, Code, a_body, a_value, initial_values, PlacedClass, code_numbered, declared_class}
 use Rattle.hph_php.specs.Classes.{is_instance}

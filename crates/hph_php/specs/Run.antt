@@ -1,6 +1,6 @@
 -- The run of a program: what it prints and how it ends with so many units, and which functions it calls. A call of a function or
 -- method, an entry of a file and a read of a class constant take a unit each; so as many of them nest as there are units.
-use Rattle.std.specs.Prelude.{ℕ, zero, suc, Bool, true, false, List, [], ◌∷◌, map, Option, None, Some, slice_get, position}
+use Rattle.std.specs.Prelude.{ℕ, zero, suc, true, false, List, [], ◌∷◌, map, Option, None, Some, slice_get, position}
 use Rattle.std.specs.List.{filter}
 use Rattle.std.specs.Option.{option_map, option_map_or}
 use Rattle.hph_ast.specs.declared.expr.Expr.{Expr}

@@ -1,5 +1,5 @@
 -- A whole program with classes: its code, what it prints, which methods it calls, and the bound on reductions. PHP 8.2 prints the same.
-use Rattle.std.proofs.Common.{◌≡◌, ◌∙◌, ◌+◌, ℕ, List, [], ◌∷◌, length, refl, codes, Bool, true, false, None, Some, String, Global}
+use Rattle.std.proofs.Common.{◌≡◌, ◌∙◌, ◌+◌, ℕ, List, [], ◌∷◌, length, refl, codes, true, false, None, Some, String, Global}
 use Rattle.std.specs.String.{string_bytes}
 use denote.Hole.Carrier.{out, roll}
 use Rattle.hph_ast.specs.declared.expr.Expr.{Expr, roll-Expr}

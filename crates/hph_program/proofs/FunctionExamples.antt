@@ -1,6 +1,6 @@
 -- Whole programs with functions: their code, what they print, how they end, which functions they call, and the bound on reductions.
 -- PHP 8.2 prints the same.
-use Rattle.std.proofs.Common.{◌≡◌, ◌∙◌, ◌+◌, ℕ, List, [], ◌∷◌, refl, codes, false, None, Some, String, Global, pos}
+use Rattle.std.proofs.Common.{◌≡◌, ◌∙◌, ◌+◌, ℕ, List, [], ◌∷◌, refl, codes, false, None, String, Global, pos}
 use Rattle.std.specs.Fmt.{digits}
 use Rattle.std.specs.String.{string_bytes}
 use denote.Hole.Carrier.{out, roll}

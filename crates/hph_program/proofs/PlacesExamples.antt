@@ -1,9 +1,8 @@
 -- Programs whose places are apart, and some whose places aren't, which are not well-formed.
-use Rattle.std.proofs.Common.{◌≡◌, ℕ, List, [], ◌∷◌, refl, sym, ◌∙◌, true≢false, subst, codes, true, false, None, String, Global, map}
+use Rattle.std.proofs.Common.{◌≡◌, List, [], ◌∷◌, refl, sym, ◌∙◌, true≢false, subst, codes, true, false, None, String, Global, map}
 use Rattle.std.specs.List.{IsDistinct}
 use Rattle.std.specs.String.{string_bytes}
 use Rattle.hph_ast.specs.declared.function.Function.{Function}
-use Rattle.hph_ast.specs.declared.stmt.Statement.{Statement}
 use Rattle.hph_ast.specs.declared.program.Program.{Program}
 use Rattle.hph_php.specs.State.{Site, is_site}
 use Rattle.hph_php.specs.Declarations.{Codes, Placed, declarations_in, codes_of, placed_at, site_at, a_body}

@@ -1,5 +1,5 @@
 -- A source tree with the file `<?php echo 3;`: its program, and what that prints.
-use Rattle.std.proofs.Common.{◌≡◌, ◌∙◌, ◌≤◌, ◌<◌, ◌++◌, ℕ, zero, suc, max, List, [], ◌∷◌, length, refl, sym, subst, codes, Some, None, String, Global, arith}
+use Rattle.std.proofs.Common.{◌≡◌, ◌∙◌, ◌≤◌, ◌<◌, ◌++◌, ℕ, zero, suc, max, List, [], ◌∷◌, length, refl, sym, subst, codes, None, String, Global, arith}
 use Rattle.std.specs.List.{slice_index_or}
 use Rattle.std.specs.String.{string_bytes}
 use Rattle.std.specs.Fmt.{digits}
@@ -35,7 +35,7 @@ use Rattle.hph_wasm.specs.Outcome.{Done}
 use Rattle.hph_php.specs.Answers.{Means}
 use Rattle.hph_php.specs.Declarations.{Codes, codes_of, declarations_in}
 use Rattle.hph_php.specs.World.{World, Context}
-use Rattle.hph_php.specs.Statements.{Way, block}
+use Rattle.hph_php.specs.Statements.{Way}
 use Rattle.hph_php.specs.Files.{entering}
 use Rattle.hph_php.specs.Run.{Meanings, meanings_of, php}
 use Rattle.hph_php.proofs.Levels as meaning

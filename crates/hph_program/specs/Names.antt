@@ -31,7 +31,7 @@ use Rattle.hph_ast.specs.Layers.{ExprLayer}
 use Rattle.hph_ast.specs.Shapes.{is_written}
 use Rattle.hph_ast.specs.RefusedExpressions.{is_this_name}
 use Rattle.hph_php.specs.State.{Name, folded}
-use Rattle.hph_php.specs.Declarations.{Declaration, a_function, a_class, a_method, PlacedClass, members_of, all_declarations, class_declarations, Codes, codes_of, takes_reference}
+use Rattle.hph_php.specs.Declarations.{Declaration, a_function, a_method, PlacedClass, members_of, all_declarations, class_declarations, Codes, codes_of, takes_reference}
 
 -- ---- parameters by reference
 

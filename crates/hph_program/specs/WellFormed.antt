@@ -10,7 +10,7 @@ use Rattle.hph_ast.specs.declared.program.FileTree.{FileTree}
 use Rattle.hph_ast.specs.declared.program.Program.{Program}
 use Rattle.hph_ast.specs.StatementNesting.{SpellsTree}
 use Rattle.hph_ast.specs.RefusedStatements.{tree_construct}
-use Rattle.hph_php.specs.State.{Site, is_site}
+use Rattle.hph_php.specs.State.{is_site}
 use Rattle.hph_php.specs.Declarations.{Placed, path_of, codes_of}
 use Rattle.hph_program.specs.Sites.{numbered_trees}
 use Rattle.hph_program.specs.Sources.{included}
