@@ -27,7 +27,7 @@ fn declares(sort: Sort, member: &Member, name: &Identifier) -> bool
                 && is_same(
                     sort,
                     name.spelled.as_slice(),
-                    function.name.spelled.as_slice(),
+                    function.get().name.spelled.as_slice(),
                 )
         }
     }
@@ -73,7 +73,7 @@ fn repeated_in(met: Earliest, sort: Sort, before: &[Member], member: &Member) ->
             repeated(met, sort, before, items.as_slice())
         }
         Member::Method { function, .. } if sort == Sort::Methods => {
-            let name = &function.name;
+            let name = &function.get().name;
             let is_there = is_declared(sort, before, name);
             meet_if(met, is_there, Construct::DuplicateName, name.start)
         }

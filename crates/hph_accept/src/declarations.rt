@@ -22,6 +22,7 @@ use hph_ast::{
     At, ConstantItem, Construct, DeclaredType, Expr, ForeachTarget, Identifier, Param,
     PropertyItem, StaticVariable, Step,
 };
+use sqlite_items::Boxed;
 
 /// A variable that is bound: `$this` may not be.
 #[tactic(auto, using(crate::proofs::InTurn::in_turn))]
@@ -56,11 +57,15 @@ pub fn maybe_bound(met: Earliest, name: &Option<Identifier>, context: Context<'_
 }
 
 /// An expression that may be there.
-pub fn maybe_expression(met: Earliest, value: &Option<Expr>, context: Context<'_>) -> Earliest
+pub fn maybe_expression(
+    met: Earliest,
+    value: &Option<Boxed<Expr>>,
+    context: Context<'_>,
+) -> Earliest
     ensures { result ≡ earliest met (maybe refused_in value.now (seen context.entry)) }
 {
     match value {
-        Some(value) => expression(met, value, context),
+        Some(value) => expression(met, value.get(), context),
         None => met,
     }
 }
@@ -103,7 +108,7 @@ pub fn constants(met: Earliest, constants: &[ConstantItem], context: Context<'_>
 {
     let mut met = met;
     for constant in constants {
-        met = expression(met, &constant.value, context);
+        met = expression(met, constant.value.get(), context);
     }
     met
 }

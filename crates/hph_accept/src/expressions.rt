@@ -107,8 +107,8 @@ pub fn expression(met: Earliest, expr: &Expr, context: Context<'_>) -> Earliest
             arguments,
             ..
         } => {
-            let met = class(met, named, context);
-            let met = member(met, name, context);
+            let met = class(met, named.get(), context);
+            let met = member(met, name.get(), context);
             expressions(met, arguments.as_slice(), context)
         }
         Expr::MethodCall {
@@ -118,7 +118,7 @@ pub fn expression(met: Earliest, expr: &Expr, context: Context<'_>) -> Earliest
             ..
         } => {
             let met = expression(met, object.get(), context);
-            let met = member(met, name, context);
+            let met = member(met, name.get(), context);
             expressions(met, arguments.as_slice(), context)
         }
         Expr::New {
@@ -126,17 +126,21 @@ pub fn expression(met: Earliest, expr: &Expr, context: Context<'_>) -> Earliest
             arguments,
             ..
         } => {
-            let met = class(met, named, context);
+            let met = class(met, named.get(), context);
             expressions(met, arguments.as_slice(), context)
         }
         Expr::ClassConstant { class: named, .. } | Expr::StaticProperty { class: named, .. } => {
-            class(met, named, context)
+            class(met, named.get(), context)
         }
         Expr::ClassName {
             class: named,
             colons,
             ..
-        } => class(meet(met, Construct::ClassName, *colons), named, context),
+        } => class(
+            meet(met, Construct::ClassName, *colons),
+            named.get(),
+            context,
+        ),
         Expr::Paren { inner, .. } => expression(met, inner.get(), context),
         Expr::Isset { paths, .. } => expressions(met, paths.as_slice(), context),
         Expr::Empty { operand, .. } | Expr::ExitWith { operand, .. } => {
@@ -290,15 +294,15 @@ fn item(met: Earliest, element: &Item, context: Context<'_>) -> Earliest
     ensures { result ≡ earliest met (item_found element.now (seen context.entry)) }
 {
     match element {
-        Item::Plain { value, .. } => expression(met, value, context),
+        Item::Plain { value, .. } => expression(met, value.get(), context),
         Item::Keyed { key, value, .. } => {
-            let met = expression(met, key, context);
-            expression(met, value, context)
+            let met = expression(met, key.get(), context);
+            expression(met, value.get(), context)
         }
         Item::Reference { at, value } => {
             let met = meet(met, Construct::RefElement, at.start);
-            let met = this_written(met, value);
-            expression(met, value, context)
+            let met = this_written(met, value.get());
+            expression(met, value.get(), context)
         }
         Item::KeyedReference {
             key,
@@ -307,9 +311,9 @@ fn item(met: Earliest, element: &Item, context: Context<'_>) -> Earliest
             ..
         } => {
             let met = meet(met, Construct::RefElement, *ampersand);
-            let met = this_written(met, value);
-            let met = expression(met, key, context);
-            expression(met, value, context)
+            let met = this_written(met, value.get());
+            let met = expression(met, key.get(), context);
+            expression(met, value.get(), context)
         }
         Item::Hole { .. } => met,
     }
@@ -323,7 +327,7 @@ fn step(met: Earliest, step: &Step, context: Context<'_>) -> Earliest
     match step {
         Step::Index { key, .. } => expression(met, key.get(), context),
         Step::Append { .. } => met,
-        Step::Property { name, .. } => member(met, name, context),
+        Step::Property { name, .. } => member(met, name.get(), context),
     }
 }
 
@@ -334,7 +338,7 @@ fn piece(met: Earliest, piece: &StringPart, context: Context<'_>) -> Earliest
 {
     match piece {
         StringPart::Piece { .. } => met,
-        StringPart::Interpolation { value } => expression(met, value, context),
+        StringPart::Interpolation { value } => expression(met, value.get(), context),
     }
 }
 

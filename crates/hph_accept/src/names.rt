@@ -8,7 +8,7 @@ ghost use Rattle.hph_accept.specs.Names.{same_of, spelled};
 use hph_ast::{ConstantItem, Function, Identifier, Param, PropertyItem};
 
 /// Names of one sort may not be the same; those of methods ignore ASCII case.
-#[derive(Clone, Copy, Debug, PartialEq, Eq)]
+#[derive(Clone, Copy, PartialEq, Eq)]
 pub enum Sort {
     Parameters,
     Constants,

@@ -45,11 +45,11 @@ fn statement(met: Earliest, one: &Statement, context: Context<'_>) -> Earliest
     match one {
         Statement::Empty { .. } | Statement::InlineText { .. } => met,
         Statement::Block { body, .. } => statements(met, body.as_slice(), context),
-        Statement::Expression { value, .. } => whole_statement(met, value, context),
+        Statement::Expression { value, .. } => whole_statement(met, value.get(), context),
         Statement::Function { function: declared } => {
-            function(met, declared, Context::in_plain_function())
+            function(met, declared.get(), Context::in_plain_function())
         }
-        Statement::Class { class: declared } => class(met, declared),
+        Statement::Class { class: declared } => class(met, declared.get()),
         Statement::If {
             test,
             body,
@@ -57,7 +57,7 @@ fn statement(met: Earliest, one: &Statement, context: Context<'_>) -> Earliest
             other,
             ..
         } => {
-            let met = expression(met, test, context);
+            let met = expression(met, test.get(), context);
             let met = statement(met, body.get(), context);
             let met = else_ifs(met, more.as_slice(), context);
             match other {
@@ -66,12 +66,12 @@ fn statement(met: Earliest, one: &Statement, context: Context<'_>) -> Earliest
             }
         }
         Statement::While { test, body, .. } => {
-            let met = expression(met, test, context);
+            let met = expression(met, test.get(), context);
             statement(met, body.get(), context.in_loop())
         }
         Statement::DoWhile { body, test, .. } => {
             let met = statement(met, body.get(), context.in_loop());
-            expression(met, test, context)
+            expression(met, test.get(), context)
         }
         Statement::For {
             init,
@@ -92,7 +92,7 @@ fn statement(met: Earliest, one: &Statement, context: Context<'_>) -> Earliest
             body,
             ..
         } => {
-            let met = expression(met, subject, context);
+            let met = expression(met, subject.get(), context);
             let met = maybe_bound(met, key, context);
             let met = foreach_target(met, value, context);
             statement(met, body.get(), context.in_loop())
@@ -102,7 +102,7 @@ fn statement(met: Earliest, one: &Statement, context: Context<'_>) -> Earliest
             cases: all,
             ..
         } => {
-            let met = expression(met, subject, context);
+            let met = expression(met, subject.get(), context);
             cases(met, all.as_slice(), context.in_loop())
         }
         Statement::Break { at, levels } | Statement::Continue { at, levels } => {
@@ -149,8 +149,8 @@ fn else_ifs(met: Earliest, branches: &[ElseIf], context: Context<'_>) -> Earlies
 fn else_if(met: Earliest, branch: &ElseIf, context: Context<'_>) -> Earliest
     ensures { result ≡ earliest met (else_if_found branch.now (seen context.entry)) }
 {
-    let met = expression(met, &branch.test, context);
-    statement(met, &branch.body, context)
+    let met = expression(met, branch.test.get(), context);
+    statement(met, branch.body.get(), context)
 }
 
 #[cycle(statement)]
@@ -225,8 +225,8 @@ fn member(met: Earliest, one: &Member, context: Context<'_>) -> Earliest
             function: declared,
             ..
         } => {
-            let met = magic_method(met, &declared.name);
-            function(met, declared, context.in_method(modifiers.is_static))
+            let met = magic_method(met, &declared.get().name);
+            function(met, declared.get(), context.in_method(modifiers.is_static))
         }
     }
 }

@@ -4,7 +4,7 @@ ghost use Rattle.hph_ast.specs.Bytes.{begins, begins_with, begins_word, is_lette
 ghost use Rattle.hph_lex.specs.Classes.{contains};
 
 /// A class of bytes (PHP manual, Basic syntax and Variables).
-#[derive(Clone, Copy, Debug, PartialEq, Eq)]
+#[derive(Clone, Copy, PartialEq, Eq)]
 pub enum ByteClass {
     /// Space, tab, LF and CR.
     Whitespace,

@@ -7,7 +7,7 @@ ghost use Rattle.hph_lex.specs.Classes.{ends};
 use crate::bytes::{ByteClass, after, begins, begins_word};
 
 /// What is read up to the first place at which it ends.
-#[derive(Clone, Copy, Debug, PartialEq, Eq)]
+#[derive(Clone, Copy, PartialEq, Eq)]
 pub enum Ending {
     InlineText,
     LineComment,

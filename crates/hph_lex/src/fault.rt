@@ -6,7 +6,7 @@ use hph_ast::{Construct, LexKind};
 use std::alloc::AllocError;
 
 /// Why a file has no tokens. An offset counts bytes from 0.
-#[derive(Clone, Copy, Debug, PartialEq, Eq)]
+#[derive(Clone, Copy, PartialEq, Eq)]
 pub enum LexFault {
     /// No token begins there.
     Bad(LexKind, u32),

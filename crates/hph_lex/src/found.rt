@@ -7,7 +7,7 @@ use hph_ast::{Construct, Kind, LexKind, Mode};
 use sqlite_items::Items;
 
 /// What the bytes behind a place are read as.
-#[derive(Clone, Copy, Debug, PartialEq, Eq)]
+#[derive(Clone, Copy, PartialEq, Eq)]
 pub enum Turn {
     Goes(Mode),
     /// Code inside braces, and the mode for what stands behind them.
@@ -17,14 +17,14 @@ pub enum Turn {
 }
 
 /// The key of an element in a string, and how many bytes it takes.
-#[derive(Debug, Drop)]
+#[derive(Drop)]
 pub struct Key {
     pub kind: Kind,
     pub length: usize,
 }
 
 /// What follows a variable in a string.
-#[derive(Debug, Drop)]
+#[derive(Drop)]
 pub enum Behind {
     Alone,
     /// `[`, a key and `]`.
@@ -34,7 +34,7 @@ pub enum Behind {
 }
 
 /// The tokens of a place.
-#[derive(Debug, Drop)]
+#[derive(Drop)]
 pub enum Found {
     Skipped,
     Token(Kind),
@@ -43,7 +43,7 @@ pub enum Found {
 }
 
 /// The tokens of a place, how many bytes they take, and what the bytes behind them are read as.
-#[derive(Debug, Drop)]
+#[derive(Drop)]
 pub struct Next {
     pub found: Found,
     pub length: usize,
@@ -51,7 +51,7 @@ pub struct Next {
 }
 
 /// What comes at a place: tokens, what is skipped, or why there is neither.
-#[derive(Debug, Drop)]
+#[derive(Drop)]
 pub enum Answer {
     Next(Next),
     Bad(LexKind),

@@ -11,7 +11,7 @@ use std::alloc::{AllocError, Global};
 use std::collections::LinkedList;
 
 /// A file that is read up to an offset.
-#[derive(Debug, Drop)]
+#[derive(Drop)]
 pub struct Reader {
     pub tokens: Vec<Token>,
     pub at: usize,

@@ -9,7 +9,7 @@ use crate::found::{Answer, Turn, token};
 use hph_ast::{Assignment, Binary, Cast, Construct, Kind, Mark, Mode};
 
 /// A token without a text of its own, or a construct that is refused.
-#[derive(Clone, Copy, Debug, PartialEq, Eq)]
+#[derive(Clone, Copy, PartialEq, Eq)]
 pub enum Spelled {
     Operator(Binary),
     Assign(Assignment),

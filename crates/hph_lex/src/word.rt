@@ -10,7 +10,7 @@ use crate::bytes::{is_word, lower};
 use hph_ast::{Binary, Keyword};
 
 /// A keyword, or an operator that is a word.
-#[derive(Clone, Copy, Debug, PartialEq, Eq)]
+#[derive(Clone, Copy, PartialEq, Eq)]
 pub enum Word {
     Keyword(Keyword),
     Operator(Binary),

@@ -84,9 +84,10 @@ statement-returns-in-None t c =
     let test = refused_in c.in-If.test ctx in
     let body = statement_refused c.in-If.body ctx in
     let more = flat_map (λ b. else_if_found b ctx) c.in-If.more in
-    let first : c.expression-met.result ≡ earliest c.args.met test = c.expression-met.ensures in
+    let first : c.expression-met.result ≡ earliest c.args.met test =
+    c.expression-met.ensures ∙ ap (λ x. earliest c.args.met (refused_in x ctx)) c.get-in-If.ensures in
     let second : c.statement-met.result ≡ earliest c.expression-met.result body =
-    c.statement-met.ensures ∙ ap (λ s. earliest c.expression-met.result (statement_refused s ctx)) c.get.ensures in
+    c.statement-met.ensures ∙ ap (λ s. earliest c.expression-met.result (statement_refused s ctx)) c.get-in-If-2.ensures in
     let third : c.else_ifs-met.result ≡ earliest c.statement-met.result more =
     c.else_ifs-met.ensures ∙ ap (λ xs. earliest c.statement-met.result (flat_map (λ b. else_if_found b ctx) xs)) c.as_slice-in-If.ensures in
     let whole : statement_refused c.args.one.now ctx ≡ test ++ (body ++ more) =
@@ -103,9 +104,10 @@ statement-returns-in-Some t c =
     let body = statement_refused c.in-If.body ctx in
     let more = flat_map (λ b. else_if_found b ctx) c.in-If.more in
     let other = statement_refused c.in-Some.other ctx in
-    let first : c.expression-met.result ≡ earliest c.args.met test = c.expression-met.ensures in
+    let first : c.expression-met.result ≡ earliest c.args.met test =
+    c.expression-met.ensures ∙ ap (λ x. earliest c.args.met (refused_in x ctx)) c.get-in-If.ensures in
     let second : c.statement-met.result ≡ earliest c.expression-met.result body =
-    c.statement-met.ensures ∙ ap (λ s. earliest c.expression-met.result (statement_refused s ctx)) c.get.ensures in
+    c.statement-met.ensures ∙ ap (λ s. earliest c.expression-met.result (statement_refused s ctx)) c.get-in-If-2.ensures in
     let third : c.else_ifs-met.result ≡ earliest c.statement-met.result more =
     c.else_ifs-met.ensures ∙ ap (λ xs. earliest c.statement-met.result (flat_map (λ b. else_if_found b ctx) xs)) c.as_slice-in-If.ensures in
     let last : c.statement.result ≡ earliest c.else_ifs-met.result other =
