@@ -20,19 +20,11 @@ use hph_simple::foreach::{foreach_key, foreach_target};
 use sqlite_items::{Boxed, Items};
 use std::alloc::Global;
 
-fn while_of(
-    token: &Token,
-    test: Boxed<Expr>,
-    body: Boxed<Statement>,
-) -> Statement
+fn while_of(token: &Token, test: Boxed<Expr>, body: Boxed<Statement>) -> Statement
     ensures { result ≡ s.While (places.span (places.on token.now) (grammar.statement_place body)) test body }
 {
     let at = span(on(token), statement_place(body.get()));
-    Statement::While {
-        at,
-        test,
-        body,
-    }
+    Statement::While { at, test, body }
 }
 
 /// The three lists of a `for`.
@@ -43,11 +35,7 @@ pub struct ForHead {
     pub step: Items<Expr>,
 }
 
-fn for_of(
-    token: &Token,
-    head: ForHead,
-    body: Boxed<Statement>,
-) -> Statement
+fn for_of(token: &Token, head: ForHead, body: Boxed<Statement>) -> Statement
     ensures { result ≡ s.For (places.span (places.on token.now) (grammar.statement_place body)) head.init head.test head.step body }
 {
     let at = span(on(token), statement_place(body.get()));
@@ -69,11 +57,7 @@ pub struct ForeachHead {
     pub value: ForeachTarget,
 }
 
-fn foreach_of(
-    token: &Token,
-    head: ForeachHead,
-    body: Boxed<Statement>,
-) -> Statement
+fn foreach_of(token: &Token, head: ForeachHead, body: Boxed<Statement>) -> Statement
     ensures { result ≡ s.Foreach (places.span (places.on token.now) (grammar.statement_place body)) head.subject head.key head.value body }
 {
     let at = span(on(token), statement_place(body.get()));

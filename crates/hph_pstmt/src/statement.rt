@@ -13,8 +13,8 @@ use hph_cursor::{Cursor, ParseFault};
 use hph_declare::Grammar;
 use hph_parts::{Expressions, Parts};
 use hph_simple::simple::{
-    break_statement, const_statement, continue_statement, echo, empty, expression, global_statement,
-    inline_text, return_statement, static_or_expression, unset,
+    break_statement, const_statement, continue_statement, echo, empty, expression,
+    global_statement, inline_text, return_statement, static_or_expression, unset,
 };
 use std::alloc::Global;
 
