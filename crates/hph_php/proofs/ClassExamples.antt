@@ -1,7 +1,8 @@
 -- A small program with a class and what it prints, as PHP 8.2 does.
 use Rattle.std.proofs.Common.{◌≡◌, ◌+◌, ℕ, List, [], ◌∷◌, refl, codes, ◌∙◌, false, Some, None, String, Global}
 use Rattle.std.specs.Fmt.{digits}
-use denote.Hole.Carrier.{out, roll}
+use denote.Hole.Carrier.{out, roll, shown, hidden}
+use Rattle.hph_ast.specs.declared.class.Member.TheBlock.{shown-the_row-Function-1, shown-the_row-Class-3}
 use Rattle.hph_ast.specs.declared.token.At.{At}
 use Rattle.hph_ast.specs.declared.token.Identifier.{Identifier}
 use Rattle.hph_ast.specs.declared.expr.Expr.{Expr, roll-Expr}
@@ -158,5 +159,5 @@ module _ (path : String Global) where
   -- a unit for the file and one for the call
   prints_property : (outcome_of (run.run (meanings_of (file path statements ∷ []) program) 2) ≡ record { output = codes "5"; end = Done })
       × (outcome_of (run.run (meanings_of (file path statements ∷ []) program) 1) ≡ record { output = []; end = outcome.More })
-  unfolding statements_done method_done this_reads new_reads call_reads class_does out-Statement roll-Statement out-Member roll-Member out roll digits
+  unfolding statements_done method_done this_reads new_reads call_reads class_does out-Statement roll-Statement out-Member roll-Member shown-the_row-Function-1 shown-the_row-Class-3 shown hidden out roll digits
   prints_property = (by_meaning 2 ∙ refl, by_meaning 1 ∙ refl)

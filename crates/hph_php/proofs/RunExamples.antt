@@ -1,6 +1,7 @@
 -- Small programs and what they print, as PHP 8.2 does.
 use Rattle.std.proofs.Common.{◌≡◌, ℕ, List, [], ◌∷◌, refl, codes, ◌∙◌, false, Some, None, String, Global, pos}
-use denote.Hole.Carrier.{out, roll}
+use denote.Hole.Carrier.{out, roll, shown, hidden}
+use Rattle.hph_ast.specs.declared.class.Member.TheBlock.{shown-the_row-Function-1, shown-the_row-Class-3}
 use Rattle.hph_php.specs.Codes.{all_builtins}
 use Rattle.std.specs.Prelude.{map}
 use Rattle.hph_ast.specs.declared.function.Param.{Param}
@@ -275,7 +276,7 @@ module _ (path : String Global) where
 
   prints_call : (prints calling (function_code (codes "f") succ_body) 2 ≡ record { output = codes "3"; end = Done })
       × (prints calling (function_code (codes "f") succ_body) 1 ≡ record { output = []; end = outcome.More })
-  unfolding succ_done calling_done out-Statement roll-Statement out roll digits all_builtins
+  unfolding succ_done calling_done out-Statement roll-Statement shown-the_row-Function-1 shown-the_row-Class-3 shown hidden out roll digits all_builtins
   prints_call = (with_function (codes "f") calling_done succ_done 2 ∙ refl, with_function (codes "f") calling_done succ_done 1 ∙ refl)
 
 -- ---- a program of two files
