@@ -2,7 +2,8 @@
 use Rattle.std.specs.Prelude.{List, [], ◌∷◌, Some, None, refl, codes}
 use Rattle.std.proofs.Common.{String, Global}
 use Rattle.std.specs.Fmt.{digits}
-use denote.Hole.Carrier.{out, roll}
+use denote.Hole.Carrier.{out, roll, shown, hidden}
+use Rattle.hph_ast.specs.declared.class.Member.TheBlock.{shown-the_row-Function-1, shown-the_row-Class-3}
 use Rattle.hph_ast.specs.declared.operator.Assignment.TheVariants as a
 use Rattle.hph_ast.specs.declared.stmt.Statement.{out-Statement, roll-Statement}
 use Rattle.hph_ast.specs.declared.class.Member.{out-Member, roll-Member}
@@ -39,7 +40,7 @@ taken =
     shows (call (codes "g") [] ∷ []) ∷ []
 
 taken_ends : (path : String Global) → EndsWith (program ((path, taken) ∷ [])) 2 (codes "1") Done
-unfolding out roll out-Statement roll-Statement out-Member roll-Member digits all_builtins
+unfolding shown-the_row-Function-1 shown-the_row-Class-3 shown hidden out roll out-Statement roll-Statement out-Member roll-Member digits all_builtins
 taken_ends path = one_file path taken (function_code taken_g, (function_code taken_g_again, tt)) 2 refl refl
 
 -- The other branch:
@@ -67,7 +68,7 @@ not_taken =
     shows (call (codes "g") [] ∷ []) ∷ []
 
 not_taken_ends : (path : String Global) → EndsWith (program ((path, not_taken) ∷ [])) 2 (codes "2") Done
-unfolding out roll out-Statement roll-Statement out-Member roll-Member digits all_builtins
+unfolding shown-the_row-Function-1 shown-the_row-Class-3 shown hidden out roll out-Statement roll-Statement out-Member roll-Member digits all_builtins
 not_taken_ends path = one_file path not_taken (function_code not_taken_g, (function_code not_taken_g_again, tt)) 2 refl refl
 
 -- A call before the branch:
@@ -87,5 +88,5 @@ too_early =
     if_ (var (codes "c")) (body (declares too_early_g ∷ [])) [] None ∷ []
 
 too_early_ends : (path : String Global) → EndsWith (program ((path, too_early) ∷ [])) 1 [] (Stopped (Fails k.UndefinedFunction))
-unfolding out roll out-Statement roll-Statement out-Member roll-Member digits all_builtins
+unfolding shown-the_row-Function-1 shown-the_row-Class-3 shown hidden out roll out-Statement roll-Statement out-Member roll-Member digits all_builtins
 too_early_ends path = one_file path too_early (function_code too_early_g, tt) 1 refl refl

@@ -2,7 +2,8 @@
 use Rattle.std.specs.Prelude.{false, List, [], ◌∷◌, Some, None, refl, codes}
 use Rattle.std.proofs.Common.{String, Global}
 use Rattle.std.specs.Fmt.{digits}
-use denote.Hole.Carrier.{out, roll}
+use denote.Hole.Carrier.{out, roll, shown, hidden}
+use Rattle.hph_ast.specs.declared.class.Member.TheBlock.{shown-the_row-Function-1, shown-the_row-Class-3}
 use Rattle.hph_ast.specs.declared.operator.Assignment.TheVariants as a
 use Rattle.hph_ast.specs.declared.stmt.Statement.{out-Statement, roll-Statement}
 use Rattle.hph_ast.specs.declared.class.Member.{out-Member, roll-Member}
@@ -22,7 +23,7 @@ copy =
     shows (call (codes "count") (var (codes "a") ∷ []) ∷ call (codes "count") (var (codes "b") ∷ []) ∷ []) ∷ []
 
 copy_ends : (path : String Global) → EndsWith (program ((path, copy) ∷ [])) 1 (codes "23") Done
-unfolding out roll out-Statement roll-Statement out-Member roll-Member digits all_builtins
+unfolding shown-the_row-Function-1 shown-the_row-Class-3 shown hidden out roll out-Statement roll-Statement out-Member roll-Member digits all_builtins
 copy_ends path = one_file path copy tt 1 refl refl
 
 -- An array in an array, and one that a function takes; a unit for the file and one for the call:
@@ -43,5 +44,5 @@ inner_copy =
     shows (along (var (codes "a")) (index (int 0) ∷ index (int 0) ∷ []) ∷ along (var (codes "b")) (index (int 0) ∷ index (int 0) ∷ []) ∷ []) ∷ []
 
 inner_copy_ends : (path : String Global) → EndsWith (program ((path, inner_copy) ∷ [])) 2 (codes "17") Done
-unfolding out roll out-Statement roll-Statement out-Member roll-Member digits all_builtins
+unfolding shown-the_row-Function-1 shown-the_row-Class-3 shown hidden out roll out-Statement roll-Statement out-Member roll-Member digits all_builtins
 inner_copy_ends path = one_file path inner_copy (function_code inner_copy_f, tt) 2 refl refl

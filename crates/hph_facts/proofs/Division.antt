@@ -2,7 +2,8 @@
 use Rattle.std.specs.Prelude.{List, [], ◌∷◌, refl, codes}
 use Rattle.std.proofs.Common.{String, Global}
 use Rattle.std.specs.Fmt.{digits}
-use denote.Hole.Carrier.{out, roll}
+use denote.Hole.Carrier.{out, roll, shown, hidden}
+use Rattle.hph_ast.specs.declared.class.Member.TheBlock.{shown-the_row-Function-1, shown-the_row-Class-3}
 use Rattle.hph_ast.specs.declared.operator.Binary.TheVariants as b
 use Rattle.hph_ast.specs.declared.operator.Prefix.TheVariants as p
 use Rattle.hph_ast.specs.declared.stmt.Statement.{out-Statement, roll-Statement}
@@ -22,7 +23,7 @@ exact =
     shows (run (int 6) ((b.Div, int 2) ∷ []) ∷ run (prefix p.Minus (int 7)) ((b.Rem, int 3) ∷ []) ∷ []) ∷ []
 
 exact_ends : (path : String Global) → EndsWith (program ((path, exact) ∷ [])) 1 (codes "3-1") Done
-unfolding out roll out-Statement roll-Statement out-Member roll-Member digits all_builtins
+unfolding shown-the_row-Function-1 shown-the_row-Class-3 shown hidden out roll out-Statement roll-Statement out-Member roll-Member digits all_builtins
 exact_ends path = one_file path exact tt 1 refl refl
 
 -- A quotient that is not whole:
@@ -32,7 +33,7 @@ broken =
     shows (run (int 7) ((b.Div, int 2) ∷ []) ∷ []) ∷ []
 
 broken_ends : (path : String Global) → EndsWith (program ((path, broken) ∷ [])) 1 [] (Stopped (Fails k.Float))
-unfolding out roll out-Statement roll-Statement out-Member roll-Member digits all_builtins
+unfolding shown-the_row-Function-1 shown-the_row-Class-3 shown hidden out roll out-Statement roll-Statement out-Member roll-Member digits all_builtins
 broken_ends path = one_file path broken tt 1 refl refl
 
 -- A remainder by zero:
@@ -42,5 +43,5 @@ by_zero =
     shows (run (int 1) ((b.Rem, int 0) ∷ []) ∷ []) ∷ []
 
 by_zero_ends : (path : String Global) → EndsWith (program ((path, by_zero) ∷ [])) 1 [] (Stopped (Fails k.DivZero))
-unfolding out roll out-Statement roll-Statement out-Member roll-Member digits all_builtins
+unfolding shown-the_row-Function-1 shown-the_row-Class-3 shown hidden out roll out-Statement roll-Statement out-Member roll-Member digits all_builtins
 by_zero_ends path = one_file path by_zero tt 1 refl refl

@@ -2,7 +2,8 @@
 use Rattle.std.specs.Prelude.{List, [], ◌∷◌, Some, ◌≡◌, refl, codes, string_bytes}
 use Rattle.std.proofs.Common.{String, Global}
 use Rattle.std.specs.Fmt.{digits}
-use denote.Hole.Carrier.{out, roll}
+use denote.Hole.Carrier.{out, roll, shown, hidden}
+use Rattle.hph_ast.specs.declared.class.Member.TheBlock.{shown-the_row-Function-1, shown-the_row-Class-3}
 use Rattle.hph_ast.specs.declared.operator.Binary.TheVariants as b
 use Rattle.hph_ast.specs.declared.operator.Assignment.TheVariants as a
 use Rattle.hph_ast.specs.declared.operator.Prefix.TheVariants as p
@@ -41,7 +42,7 @@ included_b =
 
 included_ends : (m b : String Global) (is_m : string_bytes m ≡ codes "m.php") (is_b : string_bytes b ≡ codes "b.php") →
     EndsWith (program ((m, included_m) ∷ (b, included_b) ∷ [])) 3 (codes "15") Done
-unfolding out roll out-Statement roll-Statement out-Member roll-Member digits all_builtins
+unfolding shown-the_row-Function-1 shown-the_row-Class-3 shown hidden out roll out-Statement roll-Statement out-Member roll-Member digits all_builtins
 included_ends m b is_m is_b = known_ends ((m, included_m) ∷ (b, included_b) ∷ []) (codes "m.php" ∷ codes "b.php" ∷ [])
     (λ i. is_m i ∷ is_b i ∷ []) (function_code included_h, tt) 3 refl refl
 
@@ -59,7 +60,7 @@ not_yet_b =
 
 not_yet_ends : (m b : String Global) (is_m : string_bytes m ≡ codes "m.php") (is_b : string_bytes b ≡ codes "b.php") →
     EndsWith (program ((m, not_yet_m) ∷ (b, not_yet_b) ∷ [])) 1 [] (Stopped (Fails k.UndefinedFunction))
-unfolding out roll out-Statement roll-Statement out-Member roll-Member digits all_builtins
+unfolding shown-the_row-Function-1 shown-the_row-Class-3 shown hidden out roll out-Statement roll-Statement out-Member roll-Member digits all_builtins
 not_yet_ends m b is_m is_b = known_ends ((m, not_yet_m) ∷ (b, not_yet_b) ∷ []) (codes "m.php" ∷ codes "b.php" ∷ [])
     (λ i. is_m i ∷ is_b i ∷ []) (function_code included_h, tt) 1 refl refl
 
@@ -78,6 +79,6 @@ each_time_b =
 
 each_time_ends : (m b : String Global) (is_m : string_bytes m ≡ codes "m.php") (is_b : string_bytes b ≡ codes "b.php") →
     EndsWith (program ((m, each_time_m) ∷ (b, each_time_b) ∷ [])) 5 (codes "01") Done
-unfolding out roll out-Statement roll-Statement out-Member roll-Member digits all_builtins
+unfolding shown-the_row-Function-1 shown-the_row-Class-3 shown hidden out roll out-Statement roll-Statement out-Member roll-Member digits all_builtins
 each_time_ends m b is_m is_b = known_ends ((m, each_time_m) ∷ (b, each_time_b) ∷ []) (codes "m.php" ∷ codes "b.php" ∷ [])
     (λ i. is_m i ∷ is_b i ∷ []) tt 5 refl refl

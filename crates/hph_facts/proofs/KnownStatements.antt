@@ -2,7 +2,8 @@
 use Rattle.std.specs.Prelude.{◌≡◌, ℕ, Bool, List, [], ◌∷◌, ◌++◌, map, flat_map, Option, None, Some, refl}
 use Rattle.std.specs.Option.{option_map}
 use Rattle.std.proofs.Common.{◌∙◌}
-use denote.Hole.Carrier.{out, roll}
+use denote.Hole.Carrier.{out, roll, shown, hidden}
+use Rattle.hph_ast.specs.declared.class.Member.TheBlock.{shown-the_row-Function-1, shown-the_row-Class-3}
 use Rattle.hph_ast.specs.declared.token.Identifier.{Identifier}
 use Rattle.hph_ast.specs.declared.expr.Expr.{Expr}
 use Rattle.hph_ast.specs.declared.stmt.Statement.{Statement, roll-Statement}
@@ -487,14 +488,14 @@ abbrev pub body_meaning : KnownFunction → World → Context → Means Value
 body_meaning f w c = bind (block (each_means w c f.statements)) (λ way. give (result_of way))
 
 pub body_is : (w : World) (c : Context) (f : KnownFunction) → body_value w c (function_tree f) ≡ body_meaning f w c
-unfolding out roll
+unfolding shown-the_row-Function-1 shown-the_row-Class-3 shown hidden out roll
 body_is w c f = λ i. bind (block (each_is w c f.statements i)) (λ way. give (result_of way))
 
 abbrev pub parameters_meaning : KnownFunction → World → Context → List Parameter
 parameters_meaning f w c = map (parameter_meaning w c) f.params
 
 pub parameters_is : (w : World) (c : Context) (f : KnownFunction) → parameters w c (function_tree f) ≡ parameters_meaning f w c
-unfolding out roll
+unfolding shown-the_row-Function-1 shown-the_row-Class-3 shown hidden out roll
 parameters_is w c f = parameters_are w c f.params
 
 abbrev pub declares : KnownFunction → KnownStatement

@@ -2,7 +2,8 @@
 use Rattle.std.specs.Prelude.{true, false, List, [], ◌∷◌, Some, None, refl, codes}
 use Rattle.std.proofs.Common.{String, Global}
 use Rattle.std.specs.Fmt.{digits}
-use denote.Hole.Carrier.{out, roll}
+use denote.Hole.Carrier.{out, roll, shown, hidden}
+use Rattle.hph_ast.specs.declared.class.Member.TheBlock.{shown-the_row-Function-1, shown-the_row-Class-3}
 use Rattle.hph_ast.specs.declared.operator.Assignment.TheVariants as a
 use Rattle.hph_ast.specs.declared.class.Access.TheVariants as access
 use Rattle.hph_ast.specs.declared.stmt.Statement.{out-Statement, roll-Statement}
@@ -62,7 +63,7 @@ late =
     shows (method_call (paren (static_call (by_name (codes "B")) (codes "make") [])) (codes "who") [] ∷ method_call (static_call (by_name (codes "A")) (codes "make") []) (codes "who") [] ∷ []) ∷ []
 
 late_ends : (path : String Global) → EndsWith (program ((path, late) ∷ [])) 5 (codes "BA") Done
-unfolding out roll out-Statement roll-Statement out-Member roll-Member digits all_builtins
+unfolding shown-the_row-Function-1 shown-the_row-Class-3 shown hidden out roll out-Statement roll-Statement out-Member roll-Member digits all_builtins
 late_ends path = one_file path late (function_code late_a_make, (function_code late_a_who, (function_code late_b_who, (initial_values_code [], (initial_values_code [], tt))))) 5 refl refl
 
 -- `self::` passes the late class on, and a name doesn't; six calls:
@@ -130,7 +131,7 @@ forwarded =
     shows (static_call (by_name (codes "B")) (codes "own") [] ∷ static_call (by_name (codes "B")) (codes "plain") [] ∷ []) ∷ []
 
 forwarded_ends : (path : String Global) → EndsWith (program ((path, forwarded) ∷ [])) 7 (codes "BA") Done
-unfolding out roll out-Statement roll-Statement out-Member roll-Member digits all_builtins
+unfolding shown-the_row-Function-1 shown-the_row-Class-3 shown hidden out roll out-Statement roll-Statement out-Member roll-Member digits all_builtins
 forwarded_ends path = one_file path forwarded (function_code forwarded_a_name, (function_code forwarded_a_late, (function_code forwarded_a_own, (function_code forwarded_a_plain, (function_code forwarded_b_name, (initial_values_code [], (initial_values_code [], tt))))))) 7 refl refl
 
 -- A static property is shared with a subclass; a unit for the call and one for the constant:
@@ -166,7 +167,7 @@ counted =
     shows (static_call (by_name (codes "D")) (codes "up") [] ∷ static_property (by_name (codes "C")) (codes "n") ∷ []) ∷ []
 
 counted_ends : (path : String Global) → EndsWith (program ((path, counted) ∷ [])) 3 (codes "33") Done
-unfolding out roll out-Statement roll-Statement out-Member roll-Member digits all_builtins
+unfolding shown-the_row-Function-1 shown-the_row-Class-3 shown hidden out roll out-Statement roll-Statement out-Member roll-Member digits all_builtins
 counted_ends path = one_file path counted (function_code counted_c_up, (value_code (int 2), (value_code (int 1), (initial_values_code [], (initial_values_code [], tt))))) 3 refl refl
 
 -- A method that isn't static, called by a class's name, keeps the object's class as the late static class; three calls:
@@ -226,5 +227,5 @@ kept =
     shows (method_call (method_call (paren (new (by_name (codes "B")) [])) (codes "up") []) (codes "who") [] ∷ []) ∷ []
 
 kept_ends : (path : String Global) → EndsWith (program ((path, kept) ∷ [])) 4 (codes "B") Done
-unfolding out roll out-Statement roll-Statement out-Member roll-Member digits all_builtins
+unfolding shown-the_row-Function-1 shown-the_row-Class-3 shown hidden out roll out-Statement roll-Statement out-Member roll-Member digits all_builtins
 kept_ends path = one_file path kept (function_code kept_a_make, (function_code kept_a_who, (function_code kept_b_up, (function_code kept_b_who, (initial_values_code [], (initial_values_code [], tt)))))) 4 refl refl

@@ -2,7 +2,8 @@
 use Rattle.std.specs.Prelude.{List, [], ◌∷◌, ◌++◌, refl, codes}
 use Rattle.std.proofs.Common.{String, Global}
 use Rattle.std.specs.Fmt.{digits}
-use denote.Hole.Carrier.{out, roll}
+use denote.Hole.Carrier.{out, roll, shown, hidden}
+use Rattle.hph_ast.specs.declared.class.Member.TheBlock.{shown-the_row-Function-1, shown-the_row-Class-3}
 use Rattle.hph_ast.specs.declared.operator.Assignment.TheVariants as a
 use Rattle.hph_ast.specs.declared.stmt.Statement.{out-Statement, roll-Statement}
 use Rattle.hph_ast.specs.declared.class.Member.{out-Member, roll-Member}
@@ -24,7 +25,7 @@ next_key =
     does (call (codes "var_dump") (var (codes "a") ∷ [])) ∷ []
 
 next_key_ends : (path : String Global) → EndsWith (program ((path, next_key) ∷ [])) 1 (codes "array(1) {" ++ (10 ∷ []) ++ codes "  [6]=>" ++ (10 ∷ []) ++ codes "  int(2)" ++ (10 ∷ []) ++ codes "}" ++ (10 ∷ [])) Done
-unfolding out roll out-Statement roll-Statement out-Member roll-Member digits all_builtins
+unfolding shown-the_row-Function-1 shown-the_row-Class-3 shown hidden out roll out-Statement roll-Statement out-Member roll-Member digits all_builtins
 next_key_ends path = one_file path next_key tt 1 refl refl
 
 -- There is none behind the greatest key:
@@ -35,7 +36,7 @@ no_next_key =
     does (assign a.Set (along (var (codes "b")) (last ∷ [])) (int 2)) ∷ []
 
 no_next_key_ends : (path : String Global) → EndsWith (program ((path, no_next_key) ∷ [])) 1 [] (Stopped (Fails k.AppendFull))
-unfolding out roll out-Statement roll-Statement out-Member roll-Member digits all_builtins
+unfolding shown-the_row-Function-1 shown-the_row-Class-3 shown hidden out roll out-Statement roll-Statement out-Member roll-Member digits all_builtins
 no_next_key_ends path = one_file path no_next_key tt 1 refl refl
 
 -- Which keys are one:
@@ -45,5 +46,5 @@ same_keys =
     shows (call (codes "count") (array (keyed (text (codes "08")) (int 1) ∷ keyed (int 8) (int 2) ∷ keyed (text (codes "8")) (int 3) ∷ keyed (constant (codes "true")) (int 4) ∷ keyed (constant (codes "null")) (int 5) ∷ []) ∷ []) ∷ []) ∷ []
 
 same_keys_ends : (path : String Global) → EndsWith (program ((path, same_keys) ∷ [])) 1 (codes "4") Done
-unfolding out roll out-Statement roll-Statement out-Member roll-Member digits all_builtins
+unfolding shown-the_row-Function-1 shown-the_row-Class-3 shown hidden out roll out-Statement roll-Statement out-Member roll-Member digits all_builtins
 same_keys_ends path = one_file path same_keys tt 1 refl refl

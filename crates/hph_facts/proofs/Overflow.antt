@@ -2,7 +2,8 @@
 use Rattle.std.specs.Prelude.{List, [], ◌∷◌, refl, codes}
 use Rattle.std.proofs.Common.{String, Global}
 use Rattle.std.specs.Fmt.{digits}
-use denote.Hole.Carrier.{out, roll}
+use denote.Hole.Carrier.{out, roll, shown, hidden}
+use Rattle.hph_ast.specs.declared.class.Member.TheBlock.{shown-the_row-Function-1, shown-the_row-Class-3}
 use Rattle.hph_ast.specs.declared.operator.Assignment.TheVariants as a
 use Rattle.hph_ast.specs.declared.operator.Prefix.TheVariants as p
 use Rattle.hph_ast.specs.declared.expr.Update.TheVariants as u
@@ -26,7 +27,7 @@ overflow =
     shows (text (codes "b") ∷ []) ∷ []
 
 overflow_ends : (path : String Global) → EndsWith (program ((path, overflow) ∷ [])) 1 (codes "a") (Stopped (Fails k.Overflow))
-unfolding out roll out-Statement roll-Statement out-Member roll-Member digits all_builtins
+unfolding shown-the_row-Function-1 shown-the_row-Class-3 shown hidden out roll out-Statement roll-Statement out-Member roll-Member digits all_builtins
 overflow_ends path = one_file path overflow tt 1 refl refl
 
 -- The least number has no negative:
@@ -36,5 +37,5 @@ least_negated =
     shows (constant (codes "PHP_INT_MIN") ∷ prefix p.Minus (constant (codes "PHP_INT_MIN")) ∷ []) ∷ []
 
 least_negated_ends : (path : String Global) → EndsWith (program ((path, least_negated) ∷ [])) 1 (codes "-9223372036854775808") (Stopped (Fails k.Overflow))
-unfolding out roll out-Statement roll-Statement out-Member roll-Member digits all_builtins
+unfolding shown-the_row-Function-1 shown-the_row-Class-3 shown hidden out roll out-Statement roll-Statement out-Member roll-Member digits all_builtins
 least_negated_ends path = one_file path least_negated tt 1 refl refl

@@ -2,7 +2,8 @@
 use Rattle.std.specs.Prelude.{false, List, [], ◌∷◌, ◌++◌, Some, None, refl, codes}
 use Rattle.std.proofs.Common.{String, Global}
 use Rattle.std.specs.Fmt.{digits}
-use denote.Hole.Carrier.{out, roll}
+use denote.Hole.Carrier.{out, roll, shown, hidden}
+use Rattle.hph_ast.specs.declared.class.Member.TheBlock.{shown-the_row-Function-1, shown-the_row-Class-3}
 use Rattle.hph_ast.specs.declared.operator.Binary.TheVariants as b
 use Rattle.hph_ast.specs.declared.stmt.Statement.{out-Statement, roll-Statement}
 use Rattle.hph_ast.specs.declared.class.Member.{out-Member, roll-Member}
@@ -30,7 +31,7 @@ factorial =
     shows (call (codes "fact") (int 20 ∷ []) ∷ []) ∷ []
 
 factorial_ends : (path : String Global) → EndsWith (program ((path, factorial) ∷ [])) 21 (codes "2432902008176640000") Done
-unfolding out roll out-Statement roll-Statement out-Member roll-Member digits all_builtins
+unfolding shown-the_row-Function-1 shown-the_row-Class-3 shown hidden out roll out-Statement roll-Statement out-Member roll-Member digits all_builtins
 factorial_ends path = one_file path factorial (function_code factorial_fact, tt) 21 refl refl
 
 -- The last product passes 64 bits:
@@ -41,7 +42,7 @@ factorial_overflows =
     shows (call (codes "fact") (int 21 ∷ []) ∷ []) ∷ []
 
 factorial_overflows_ends : (path : String Global) → EndsWith (program ((path, factorial_overflows) ∷ [])) 22 [] (Stopped (Fails k.Overflow))
-unfolding out roll out-Statement roll-Statement out-Member roll-Member digits all_builtins
+unfolding shown-the_row-Function-1 shown-the_row-Class-3 shown hidden out roll out-Statement roll-Statement out-Member roll-Member digits all_builtins
 factorial_overflows_ends path = one_file path factorial_overflows (function_code factorial_fact, tt) 22 refl refl
 
 -- Two functions that call one another, eight times in all:
@@ -69,5 +70,5 @@ each_other =
     does (call (codes "var_dump") (call (codes "even") (int 7 ∷ []) ∷ [])) ∷ []
 
 each_other_ends : (path : String Global) → EndsWith (program ((path, each_other) ∷ [])) 9 (codes "bool(false)" ++ (10 ∷ [])) Done
-unfolding out roll out-Statement roll-Statement out-Member roll-Member digits all_builtins
+unfolding shown-the_row-Function-1 shown-the_row-Class-3 shown hidden out roll out-Statement roll-Statement out-Member roll-Member digits all_builtins
 each_other_ends path = one_file path each_other (function_code each_other_even, (function_code each_other_odd, tt)) 9 refl refl

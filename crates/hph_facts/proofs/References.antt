@@ -2,7 +2,8 @@
 use Rattle.std.specs.Prelude.{true, List, [], ◌∷◌, None, refl, codes}
 use Rattle.std.proofs.Common.{String, Global}
 use Rattle.std.specs.Fmt.{digits}
-use denote.Hole.Carrier.{out, roll}
+use denote.Hole.Carrier.{out, roll, shown, hidden}
+use Rattle.hph_ast.specs.declared.class.Member.TheBlock.{shown-the_row-Function-1, shown-the_row-Class-3}
 use Rattle.hph_ast.specs.declared.operator.Assignment.TheVariants as a
 use Rattle.hph_ast.specs.declared.expr.Update.TheVariants as u
 use Rattle.hph_ast.specs.declared.stmt.Statement.{out-Statement, roll-Statement}
@@ -34,7 +35,7 @@ swap =
     shows (var (codes "a") ∷ []) ∷ []
 
 swap_ends : (path : String Global) → EndsWith (program ((path, swap) ∷ [])) 3 (codes "212") Done
-unfolding out roll out-Statement roll-Statement out-Member roll-Member digits all_builtins
+unfolding shown-the_row-Function-1 shown-the_row-Class-3 shown hidden out roll out-Statement roll-Statement out-Member roll-Member digits all_builtins
 swap_ends path = one_file path swap (function_code swap_swap, tt) 3 refl refl
 
 -- Two names of one location, and unset of one of them:
@@ -50,5 +51,5 @@ shared =
     shows (var (codes "b") ∷ []) ∷ []
 
 shared_ends : (path : String Global) → EndsWith (program ((path, shared) ∷ [])) 1 (codes "22") Done
-unfolding out roll out-Statement roll-Statement out-Member roll-Member digits all_builtins
+unfolding shown-the_row-Function-1 shown-the_row-Class-3 shown hidden out roll out-Statement roll-Statement out-Member roll-Member digits all_builtins
 shared_ends path = one_file path shared tt 1 refl refl

@@ -2,7 +2,8 @@
 use Rattle.std.specs.Prelude.{false, List, [], ◌∷◌, ◌++◌, Some, None, ◌≡◌, refl, codes, pos, string_bytes}
 use Rattle.std.proofs.Common.{String, Global}
 use Rattle.std.specs.Fmt.{digits}
-use denote.Hole.Carrier.{out, roll}
+use denote.Hole.Carrier.{out, roll, shown, hidden}
+use Rattle.hph_ast.specs.declared.class.Member.TheBlock.{shown-the_row-Function-1, shown-the_row-Class-3}
 use Rattle.hph_ast.specs.declared.operator.Binary.TheVariants as b
 use Rattle.hph_ast.specs.declared.operator.Assignment.TheVariants as a
 use Rattle.hph_ast.specs.declared.operator.Prefix.TheVariants as p
@@ -126,7 +127,7 @@ stack_stack =
 
 stack_ends : (main named stack : String Global) (is_main : string_bytes main ≡ codes "main.php") (is_named : string_bytes named ≡ codes "lib/named.php") (is_stack : string_bytes stack ≡ codes "lib/stack.php") →
     EndsWith (program ((main, stack_main) ∷ (named, stack_named) ∷ (stack, stack_stack) ∷ [])) 50 (codes "sq: 6" ++ (10 ∷ []) ++ codes "k2,#14,k1,#5,k0,#1" ++ (10 ∷ [])) Done
-unfolding out roll out-Statement roll-Statement out-Member roll-Member digits all_builtins
+unfolding shown-the_row-Function-1 shown-the_row-Class-3 shown hidden out roll out-Statement roll-Statement out-Member roll-Member digits all_builtins
 stack_ends main named stack is_main is_named is_stack = known_ends ((main, stack_main) ∷ (named, stack_named) ∷ (stack, stack_stack) ∷ []) (codes "main.php" ∷ codes "lib/named.php" ∷ codes "lib/stack.php" ∷ [])
     (λ i. is_main i ∷ is_named i ∷ is_stack i ∷ []) (function_code stack_total, (function_code stack_named_construct, (function_code stack_named_show, (function_code stack_stack_push, (function_code stack_stack_pop, (function_code stack_stack_size, (value_code (text (codes ": ")), (initial_values_code ((codes "name", None) ∷ []), (initial_values_code ((codes "items", Some (array [])) ∷ (codes "made", Some (int 0)) ∷ []), tt))))))))) 50 refl refl
 
@@ -139,5 +140,5 @@ stopped =
     shows (text (codes "y") ∷ []) ∷ []
 
 stopped_ends : (path : String Global) → EndsWith (program ((path, stopped) ∷ [])) 1 (codes "x") (Stopped (Exits (pos 300)))
-unfolding out roll out-Statement roll-Statement out-Member roll-Member digits all_builtins
+unfolding shown-the_row-Function-1 shown-the_row-Class-3 shown hidden out roll out-Statement roll-Statement out-Member roll-Member digits all_builtins
 stopped_ends path = one_file path stopped tt 1 refl refl

@@ -1,7 +1,8 @@
 -- A whole program with classes: its code, what it prints, which methods it calls, and the bound on reductions. PHP 8.2 prints the same.
 use Rattle.std.proofs.Common.{◌≡◌, ◌∙◌, ◌+◌, ℕ, List, [], ◌∷◌, length, refl, codes, true, false, None, Some, String, Global}
 use Rattle.std.specs.String.{string_bytes}
-use denote.Hole.Carrier.{out, roll}
+use denote.Hole.Carrier.{out, roll, shown, hidden}
+use Rattle.hph_ast.specs.declared.class.Member.TheBlock.{shown-the_row-Function-1, shown-the_row-Class-3}
 use Rattle.hph_ast.specs.declared.expr.Expr.{Expr, roll-Expr}
 use Rattle.hph_ast.specs.declared.expr.MemberName.{MemberName, roll-MemberName}
 use Rattle.hph_ast.specs.declared.expr.ClassReference.{ClassReference, roll-ClassReference}
@@ -251,17 +252,17 @@ module _ (path : String Global) where
   makes_meanings : meanings_of makes.files makes_code ≡ all_mean makes_code statements_mean
       (λ w c. means.returns w c (news_static w c) ∷ []) (λ w c. means.returns w c (means.text w c (codes "A")) ∷ [])
       (λ w c. means.returns w c (means.text w c (codes "B")) ∷ [])
-  unfolding out roll
+  unfolding shown-the_row-Function-1 shown-the_row-Class-3 shown hidden out roll
   makes_meanings = λ i. all_mean makes_code (λ w c. (statements_are w c).is i) (λ w c. (make_body_is w c).is i) (λ w c. (who_a_is w c).is i) (λ w c. (who_b_is w c).is i)
 
   -- a unit for the file, and one for each of four calls
   makes_prints : php makes 5 ≡ record { output = codes "BA"; end = Done }
-  unfolding out-Statement roll-Statement out-Member roll-Member out roll all_builtins
+  unfolding out-Statement roll-Statement out-Member roll-Member shown-the_row-Function-1 shown-the_row-Class-3 shown hidden out roll all_builtins
   makes_prints = php_is makes makes_codes makes_meanings 5 ∙ refl
 
   -- the scopes are A, its make and who, B and its who, from 1 on
   makes_calls : calls makes 5 ≡ 2 ∷ 5 ∷ 2 ∷ 3 ∷ []
-  unfolding out-Statement roll-Statement out-Member roll-Member out roll all_builtins
+  unfolding out-Statement roll-Statement out-Member roll-Member shown-the_row-Function-1 shown-the_row-Class-3 shown hidden out roll all_builtins
   makes_calls = calls_are makes makes_codes makes_declares makes_meanings 5 ∙ refl
 
   -- 4096 * 6 * 25 ^ 2, as the program has 24 nodes

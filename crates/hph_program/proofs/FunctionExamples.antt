@@ -3,7 +3,8 @@
 use Rattle.std.proofs.Common.{◌≡◌, ◌∙◌, ◌+◌, ℕ, List, [], ◌∷◌, refl, codes, false, None, String, Global, pos}
 use Rattle.std.specs.Fmt.{digits}
 use Rattle.std.specs.String.{string_bytes}
-use denote.Hole.Carrier.{out, roll}
+use denote.Hole.Carrier.{out, roll, shown, hidden}
+use Rattle.hph_ast.specs.declared.class.Member.TheBlock.{shown-the_row-Function-1, shown-the_row-Class-3}
 use Rattle.hph_ast.specs.declared.operator.Binary.TheVariants as b
 use Rattle.hph_ast.specs.declared.stmt.Statement.{Statement, roll-Statement, out-Statement}
 use Rattle.hph_ast.specs.declared.function.Function.{Function}
@@ -59,12 +60,12 @@ module _ (path : String Global) where
   sum_meanings = λ i. one_file (code_of []) sum_statements (λ w c. (sum_is w c).is i) []
 
   sum_prints : php sum 1 ≡ record { output = codes "3"; end = Done }
-  unfolding out-Statement roll-Statement out roll digits
+  unfolding out-Statement roll-Statement shown-the_row-Function-1 shown-the_row-Class-3 shown hidden out roll digits
   sum_prints = php_is sum sum_codes sum_meanings 1 ∙ refl
 
   -- a unit is needed to enter the file
   sum_needs_a_unit : php sum 0 ≡ record { output = []; end = outcome.More }
-  unfolding out-Statement roll-Statement out roll digits
+  unfolding out-Statement roll-Statement shown-the_row-Function-1 shown-the_row-Class-3 shown hidden out roll digits
   sum_needs_a_unit = php_is sum sum_codes sum_meanings 0 ∙ refl
 
   -- the file, the statement, the sum and two numbers
@@ -108,7 +109,7 @@ module _ (path : String Global) where
   exits_meanings = λ i. one_file (code_of []) exit_statements (λ w c. (exits_is w c).is i) []
 
   exits_prints : php exits 1 ≡ record { output = codes "x"; end = Stopped (Exits (pos 300)) }
-  unfolding out-Statement roll-Statement out roll
+  unfolding out-Statement roll-Statement shown-the_row-Function-1 shown-the_row-Class-3 shown hidden out roll
   exits_prints = php_is exits exits_codes exits_meanings 1 ∙ refl
 
   -- ---- `<?php $i = 0; while ($i < 3) { echo $i++; }`
@@ -142,11 +143,11 @@ module _ (path : String Global) where
 
   -- a unit for the file, and one for each of three turns
   counts_to_2 : php counts 4 ≡ record { output = codes "012"; end = Done }
-  unfolding out-Statement roll-Statement out roll digits
+  unfolding out-Statement roll-Statement shown-the_row-Function-1 shown-the_row-Class-3 shown hidden out roll digits
   counts_to_2 = php_is counts counts_codes counts_meanings 4 ∙ refl
 
   counts_to_1 : php counts 3 ≡ record { output = codes "01"; end = outcome.More }
-  unfolding out-Statement roll-Statement out roll digits
+  unfolding out-Statement roll-Statement shown-the_row-Function-1 shown-the_row-Class-3 shown hidden out roll digits
   counts_to_1 = php_is counts counts_codes counts_meanings 3 ∙ refl
 
   -- ---- `<?php function fact($n){ if ($n < 2) { return 1; } return $n * fact($n - 1); } echo fact(3);` and its kin
@@ -206,31 +207,31 @@ module _ (path : String Global) where
 
   factorial_meanings : (n d : ℕ) →
       meanings_of (factorial n d).files fact_code ≡ one_file fact_code (fact_statements n d) (factorial_means n) (body_routine fact_code fact fact_means ∷ [])
-  unfolding out roll
+  unfolding shown-the_row-Function-1 shown-the_row-Class-3 shown hidden out roll
   factorial_meanings n d = λ i.
       one_file fact_code (fact_statements n d) (λ w c. (factorial_is n d w c).is i) (body_routine fact_code fact (λ w c. (fact_is w c).is i) ∷ [])
 
   -- a unit for the file, and one for each of three calls
   factorial_prints : php (factorial 3 1) 4 ≡ record { output = codes "6"; end = Done }
-  unfolding out-Statement roll-Statement out roll digits all_builtins
+  unfolding out-Statement roll-Statement shown-the_row-Function-1 shown-the_row-Class-3 shown hidden out roll digits all_builtins
   factorial_prints = php_is (factorial 3 1) (factorial_codes 3 1) (factorial_meanings 3 1) 4 ∙ refl
 
   factorial_of_20 : php (factorial 20 2) 21 ≡ record { output = codes "2432902008176640000"; end = Done }
-  unfolding out-Statement roll-Statement out roll digits all_builtins
+  unfolding out-Statement roll-Statement shown-the_row-Function-1 shown-the_row-Class-3 shown hidden out roll digits all_builtins
   factorial_of_20 = php_is (factorial 20 2) (factorial_codes 20 2) (factorial_meanings 20 2) 21 ∙ refl
 
   factorial_of_21 : php (factorial 21 2) 22 ≡ record { output = []; end = Stopped (Fails Overflow) }
-  unfolding out-Statement roll-Statement out roll digits all_builtins
+  unfolding out-Statement roll-Statement shown-the_row-Function-1 shown-the_row-Class-3 shown hidden out roll digits all_builtins
   factorial_of_21 = php_is (factorial 21 2) (factorial_codes 21 2) (factorial_meanings 21 2) 22 ∙ refl
 
   -- the function is scope 1
   factorial_calls : calls (factorial 3 1) 4 ≡ 1 ∷ 1 ∷ 1 ∷ []
-  unfolding out-Statement roll-Statement out roll digits all_builtins
+  unfolding out-Statement roll-Statement shown-the_row-Function-1 shown-the_row-Class-3 shown hidden out roll digits all_builtins
   factorial_calls = calls_are (factorial 3 1) (factorial_codes 3 1) (factorial_declares 3 1) (factorial_meanings 3 1) 4 ∙ refl
 
   -- with a unit less the last call isn't made
   factorial_calls_fewer : calls (factorial 3 1) 3 ≡ 1 ∷ 1 ∷ []
-  unfolding out-Statement roll-Statement out roll digits all_builtins
+  unfolding out-Statement roll-Statement shown-the_row-Function-1 shown-the_row-Class-3 shown hidden out roll digits all_builtins
   factorial_calls_fewer = calls_are (factorial 3 1) (factorial_codes 3 1) (factorial_declares 3 1) (factorial_meanings 3 1) 3 ∙ refl
 
   -- 4096 * 5 * 21 ^ 2, as the program has 20 nodes
@@ -284,14 +285,14 @@ module _ (path : String Global) where
   remembers_declares = simp trees
 
   remembers_meanings : meanings_of remembers.files counter_code ≡ one_file counter_code remember_statements remembers_means (body_routine counter_code counter counter_means ∷ [])
-  unfolding out roll
+  unfolding shown-the_row-Function-1 shown-the_row-Class-3 shown hidden out roll
   remembers_meanings = λ i. one_file counter_code remember_statements (λ w c. (remembers_is w c).is i) (body_routine counter_code counter (λ w c. (counter_is w c).is i) ∷ [])
 
   -- the second call finds what the first left
   remembers_prints : php remembers 3 ≡ record { output = codes "2"; end = Done }
-  unfolding out-Statement roll-Statement out roll digits all_builtins
+  unfolding out-Statement roll-Statement shown-the_row-Function-1 shown-the_row-Class-3 shown hidden out roll digits all_builtins
   remembers_prints = php_is remembers remembers_codes remembers_meanings 3 ∙ refl
 
   remembers_calls : calls remembers 3 ≡ 1 ∷ 1 ∷ []
-  unfolding out-Statement roll-Statement out roll digits all_builtins
+  unfolding out-Statement roll-Statement shown-the_row-Function-1 shown-the_row-Class-3 shown hidden out roll digits all_builtins
   remembers_calls = calls_are remembers remembers_codes remembers_declares remembers_meanings 3 ∙ refl

@@ -2,7 +2,8 @@
 use Rattle.std.proofs.Common.{◌≡◌, ◌∙◌, ℕ, List, [], ◌∷◌, refl, codes, false, None, Some, String, Global}
 use Rattle.std.specs.String.{string_bytes}
 use Rattle.std.specs.Fmt.{digits}
-use denote.Hole.Carrier.{out, roll}
+use denote.Hole.Carrier.{out, roll, shown, hidden}
+use Rattle.hph_ast.specs.declared.class.Member.TheBlock.{shown-the_row-Function-1, shown-the_row-Class-3}
 use Rattle.hph_ast.specs.declared.operator.Prefix.TheVariants as prefix
 use Rattle.hph_ast.specs.declared.operator.IncludeForm.TheVariants as form
 use Rattle.hph_ast.specs.declared.expr.Expr.{Expr, roll-Expr}
@@ -126,16 +127,16 @@ module _ (m_path b_path : String Global) (m_is : string_bytes m_path ≡ codes "
   }
 
   two_files_meanings : meanings_of two_files.files two_codes ≡ two_meanings main_means (λ w c. means.declares w c (codes "h") 6 ∷ []) five_means
-  unfolding out roll
+  unfolding shown-the_row-Function-1 shown-the_row-Class-3 shown hidden out roll
   two_files_meanings = λ i. two_meanings (λ w c. (main_is w c).is i) (λ w c. (other_is w c).is i) (λ w c. (five_is w c).is i)
 
   -- a unit for each file, and one for the call
   two_files_print : php two_files 3 ≡ record { output = codes "15"; end = Done }
-  unfolding out-Statement roll-Statement out roll digits all_builtins
+  unfolding out-Statement roll-Statement shown-the_row-Function-1 shown-the_row-Class-3 shown hidden out roll digits all_builtins
   two_files_print = php_is two_files two_files_codes two_files_meanings 3 ∙ refl
 
   two_files_call : calls two_files 3 ≡ 1 ∷ []
-  unfolding out-Statement roll-Statement out roll digits all_builtins
+  unfolding out-Statement roll-Statement shown-the_row-Function-1 shown-the_row-Class-3 shown hidden out roll digits all_builtins
   two_files_call = calls_are two_files two_files_codes two_files_declare two_files_meanings 3 ∙ refl
 
 -- ---- paths

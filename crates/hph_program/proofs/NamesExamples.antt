@@ -1,6 +1,7 @@
 -- Arguments for parameters by reference, and members that an ancestor declares private.
 use Rattle.std.proofs.Common.{◌≡◌, List, [], ◌∷◌, refl, codes, true, false, None, Some, String, Global}
-use denote.Hole.Carrier.{out, roll}
+use denote.Hole.Carrier.{out, roll, shown, hidden}
+use Rattle.hph_ast.specs.declared.class.Member.TheBlock.{shown-the_row-Function-1, shown-the_row-Class-3}
 use Rattle.hph_ast.specs.declared.expr.Expr.{Expr}
 use Rattle.hph_ast.specs.declared.stmt.Statement.{Statement}
 use Rattle.hph_ast.specs.declared.function.Param.{Param}
@@ -81,7 +82,7 @@ class_b = record {
 }
 
 a_is_a_parent : (names_parent class_b class_a ≡ true) × (names_parent class_a class_b ≡ false)
-unfolding out roll
+unfolding shown-the_row-Function-1 shown-the_row-Class-3 shown hidden out roll
 a_is_a_parent = (refl, refl)
 
 both_declare_x : (property_names any_modifiers (with_access public) ≡ codes "x" ∷ []) × (property_names is_private (with_access private) ≡ codes "x" ∷ [])

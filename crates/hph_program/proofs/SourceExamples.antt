@@ -6,7 +6,8 @@ use Rattle.std.specs.Fmt.{digits}
 use Rattle.std.specs.FinMap as fin_map
 use Rattle.std.specs.FinMap.{get-from_entries}
 use Rattle.std.specs.Cmp.Lexicographic.{nat_list_cmp_total}
-use denote.Hole.Carrier.{out, roll}
+use denote.Hole.Carrier.{out, roll, shown, hidden}
+use Rattle.hph_ast.specs.declared.class.Member.TheBlock.{shown-the_row-Function-1, shown-the_row-Class-3}
 use Rattle.hph_src.specs.Files.{Files}
 use Rattle.hph_ast.specs.declared.token.Token.{Token}
 use Rattle.hph_ast.specs.declared.token.Kind.TheVariants as k
@@ -181,5 +182,5 @@ module _ (path : String Global) (path_is : string_bytes path ≡ codes "m.php") 
 
   -- from the bytes of the file to what they print
   three_prints : php program 1 ≡ record { output = codes "3"; end = Done }
-  unfolding out-Statement roll-Statement out roll digits
+  unfolding out-Statement roll-Statement shown-the_row-Function-1 shown-the_row-Class-3 shown hidden out roll digits
   three_prints = (λ i. php (record { files = sites_of_three i }) 1) ∙ php_is numbered_program three_codes three_meanings 1 ∙ refl
