@@ -8,7 +8,7 @@ use std::alloc::{AllocError, Global};
 use std::borrow::CowStr;
 
 /// How a command ends.
-#[derive(Debug, Drop)]
+#[derive(Drop)]
 pub enum Status {
     /// The module was written.
     Built,

@@ -2,7 +2,7 @@
 use hph_ast::{Construct, LexKind};
 
 /// Why a file has no tree that can be compiled: its first fault, by the order of the tests. Offsets count bytes from 0.
-#[derive(Clone, Copy, Debug, PartialEq, Eq)]
+#[derive(Clone, Copy, PartialEq, Eq)]
 pub enum FileFault {
     /// No token begins there.
     Lex { kind: LexKind, offset: u32 },

@@ -12,6 +12,7 @@ use hph_ast::{At, Expr, Mark};
 use hph_cursor::{Cursor, ParseFault};
 use hph_enclosed::{Grammar, PathTest};
 use hph_fexpr::{Elements, Form};
+use hph_nest::expr_fits;
 use hph_postfix::Chains;
 use sqlite_items::{Boxed, Items};
 use std::alloc::Global;
@@ -29,6 +30,9 @@ impl<F: Fn(Global, &mut Cursor<'_>, usize, Form) -> Result<Boxed<Expr>, ParseFau
 }
 
 /// An expression of a form, which nests no deeper than `depth`, from the tokens at the cursor; what follows it is left.
+///
+/// Each one is tested as soon as it is read, so that chains in chains never make a tree that is too high to let go of.
+#[tactic(auto, using(crate::proofs::Kept::none_at))]
 pub fn nested(
     alloc: Global,
     cursor: &mut Cursor<'_>,
@@ -46,7 +50,11 @@ pub fn nested(
         nested,
     };
     let below = Chains { parts };
-    Operators { below }.one_form(cursor, form)
+    let found = Operators { below }.one_form(cursor, form)?;
+    if !expr_fits(found.get(), depth) {
+        return Err(cursor.refuse());
+    }
+    Ok(found)
 }
 
 /// Paths behind `(`, which nest no deeper than `depth`, and the place of the `)` behind them.
