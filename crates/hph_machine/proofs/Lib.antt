@@ -1,0 +1,5 @@
+mod Asking
+mod Classes
+mod Findings
+mod Members
+mod Raises
