@@ -1,11 +1,13 @@
 //! What an event makes of the entry of the seat that acts. Where there is no memory the entry stays as it was.
 ghost use Rattle.std.specs.Prelude.{◌≡◌, ◌-◌, ◌<◌, OnOk, OnErr};
-ghost use Rattle.hph_core.specs.Effects.{note, after_take, after_mark, after_put_back, after_try, after_release, after_read, after_raise, after_add, after_pay, after_done};
+ghost use Rattle.hph_core.specs.Effects.{note, after_take, after_mark, after_put_back, after_try, after_release, after_read, after_raise, after_add, after_pay, after_done, after_join};
+ghost use Rattle.hph_core.specs.State.{fresh, spent};
 
 use crate::lists;
 use hph_core::{Finding, Known, View};
 use hph_type::Ty;
 use std::alloc::{AllocError, Global};
+use std::collections::LinkedList;
 
 /// One more finding.
 pub fn note(view: &mut View, finding: Finding) -> Result<(), AllocError>
@@ -149,4 +151,51 @@ pub fn finish(view: &mut View, scope: u32) -> Result<(), AllocError>
     view.findings.push_back(Finding::Done(scope))?;
     view.hand = None;
     Ok(())
+}
+
+/// A seat that has done nothing yet.
+pub fn fresh(alloc: Global, number: u32) -> View
+    ensures { result ≡ fresh number }
+{
+    View {
+        live: true,
+        number,
+        hand: None,
+        holds: LinkedList::new(alloc),
+        marks: LinkedList::new(alloc),
+        debt: false,
+        known: LinkedList::new(alloc),
+        findings: LinkedList::new(alloc),
+        top: number,
+        joined: LinkedList::new(alloc),
+    }
+}
+
+/// A seat that was joined into another.
+pub fn spent(alloc: Global) -> View
+    ensures { result ≡ spent }
+{
+    View {
+        live: false,
+        ..fresh(alloc, 0)
+    }
+}
+
+/// The greatest length of two lists that can be put together is below this.
+const MOST: usize = 1 << 63;
+
+/// After another seat, whose findings it gets, is joined into this one.
+pub fn join(view: &mut View, other: &mut View) -> Result<(), AllocError>
+    ensures ok { OnOk result (view.new ≡ after_join view.old other.old) }
+    ensures err { OnErr result ((view.new ≡ view.old) × (other.new ≡ other.old)) }
+{
+    if view.findings.len() + other.findings.len() >= MOST {
+        return Err(AllocError);
+    }
+    other.joined.push_front(other.number)?;
+    if view.joined.append(&mut other.joined).is_err() {
+        let _ = other.joined.pop_front();
+        return Err(AllocError);
+    }
+    view.findings.append(&mut other.findings)
 }

@@ -1,12 +1,13 @@
-//! The machine of the workers as code: where events are enabled, and what they make of a seat's entry.
+//! The machine of the workers as code: one event at a time, on a state that meets the machine's rule.
 //!
-//! `conditions` decides, from the system, the cells and the entry of the seat that acts, exactly the conditions of
-//! specs/Conditions.antt in `hph_core`. `entries` makes of an entry what specs/Effects.antt there says of each event;
-//! where there is no memory, the entry stays as it was. `state` has the words and the entries, on which each event but the
-//! making and the joining of seats leaves what is said there.
+//! `machine::step` takes an event. Where the event isn't enabled it says so, and the state stays as it was; else the
+//! state and the answer are what specs/Events.antt of `hph_core` says. `conditions` decides, from the system, the
+//! cells and the entry of the seat that acts, where events are enabled. `entries` makes of an entry what each event
+//! does, and `state` does so with the words. Where there is no memory, all stay as they were.
 #![tactic(auto)]
 
 pub mod conditions;
 pub mod entries;
 mod lists;
+pub mod machine;
 pub mod state;

@@ -1,5 +1,5 @@
 //! A state of the machine as a value, and what each event makes of it.
-ghost use Rattle.std.specs.Prelude.{◌≡◌, ◌↔◌, ◌<◌, ◌+◌, ◌/◌, ◌^◌, ℕ, IsTrue, IsSome, IfSome, IfOk, OnOk, OnErr, length, slice_index_or};
+ghost use Rattle.std.specs.Prelude.{◌≡◌, ◌≢◌, ◌↔◌, ◌<◌, ◌+◌, ◌/◌, ◌^◌, ℕ, IsTrue, IsSome, IfSome, IfOk, OnOk, OnErr, length, slice_index_or};
 ghost use Rattle.hph_sys.specs.Typings.{at};
 ghost use Rattle.hph_core.specs.State.{entry, holder, member, work_word};
 ghost use Rattle.hph_core.specs.Effects as effects;
@@ -10,6 +10,7 @@ use crate::entries;
 use hph_core::{Finding, View};
 use hph_type::Ty;
 use std::alloc::{AllocError, Global};
+use std::mem;
 
 /// What the workers share, and what each seat has.
 #[derive(Drop)]
@@ -212,5 +213,41 @@ impl State {
         entries::put_back(&mut self.entries[worker as usize], scope, bit)?;
         self.work[(scope / 64) as usize] |= 1u64 << (scope % 64);
         Ok(bit)
+    }
+
+    /// Whether a seat owes a unit.
+    pub fn owes(&self, worker: u32) -> bool
+        ensures { result ≡ (entry (state_of self.now) worker).debt }
+    {
+        match self.entries.get(worker as usize) {
+            Some(view) => view.debt,
+            None => false,
+        }
+    }
+
+    /// After the seat of a number is made.
+    pub fn split(&mut self, alloc: Global, made: u32)
+        requires { made < length self.old.entries.items }
+        ensures { state_of self.new ≡ effects.split (state_of self.old) made }
+    {
+        self.entries[made as usize] = entries::fresh(alloc, made);
+    }
+
+    /// After a seat is joined into another.
+    pub fn join(&mut self, alloc: Global, worker: u32, joined: u32) -> Result<(), AllocError>
+        requires seat { worker < length self.old.entries.items }
+        requires joined { joined < length self.old.entries.items }
+        requires two { joined ≢ worker }
+        ensures ok { OnOk result (state_of self.new ≡ effects.join_seats (state_of self.old) worker joined) }
+        ensures err { OnErr result (state_of self.new ≡ state_of self.old) }
+    {
+        let mut gone = mem::replace(&mut self.entries[joined as usize], entries::spent(alloc));
+        match entries::join(&mut self.entries[worker as usize], &mut gone) {
+            Ok(()) => Ok(()),
+            Err(fault) => {
+                self.entries[joined as usize] = gone;
+                Err(fault)
+            }
+        }
     }
 }
