@@ -1,0 +1,7 @@
+mod Asking
+mod Classes
+mod Findings
+mod Joining
+mod Members
+mod Owing
+mod Raises
