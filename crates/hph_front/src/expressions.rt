@@ -302,7 +302,10 @@ fn tokens_of(rt: &impl Abort, alloc: Global, source: &str) -> Result<Vec<Token>,
     let file = format!(in alloc; "<?php {source}")?;
     let bytes = file.as_bytes();
     assert!(rt; bytes.len() < 1 << 32);
-    Ok(tokens(alloc, bytes)?)
+    match tokens(alloc, bytes) {
+        Ok(found) => Ok(found),
+        Err(_) => panic!(rt; "{source} spells no tokens"),
+    }
 }
 
 /// The expression that is all of a source.
