@@ -1,6 +1,6 @@
 -- Names that stand twice, found in two ways.
-use Rattle.std.specs.Prelude.{◌≡◌, ◌<◌, ◌+◌, ℕ, Bool, true, false, ◌||◌, Option, List, [], ◌∷◌, ◌++◌, map, flat_map, length, refl, bytes_eq}
-use Rattle.std.proofs.Common.{ap, sym, ◌∙◌, take, drop, get_or, drop-cons, add-one, append_assoc}
+use Rattle.std.specs.Prelude.{◌≡◌, ◌<◌, ◌+◌, ℕ, Bool, true, false, ◌||◌, Option, List, [], ◌∷◌, ◌++◌, map, flat_map, length, refl}
+use Rattle.std.proofs.Common.{ap, sym, subst, ◌∙◌, take, drop, get_or, drop-cons, add-one, append_assoc}
 use Rattle.std.specs.List.{list_any}
 use Rattle.std.proofs.lemmas.List.{append-nil, map-append, take_more, flat_map_more}
 use Rattle.std.proofs.lemmas.List.Folds.{list_any-append}
@@ -8,11 +8,12 @@ use Rattle.hph_ast.specs.declared.token.Identifier.{Identifier}
 use Rattle.hph_ast.specs.declared.class.Member.{Member}
 use Rattle.hph_ast.specs.declared.refusal.Construct.{Construct}
 use Rattle.hph_ast.specs.declared.refusal.Construct.TheVariants as c
-use Rattle.hph_ast.specs.RefusedExpressions.{Found, on_true}
+use Rattle.hph_ast.specs.RefusedExpressions.{on_true}
 use Rattle.hph_ast.specs.RefusedStatements as refused
+use Rattle.hph_names.specs.declared.met.Case.{Case}
 use Rattle.hph_accept.specs.declared.names.Sort.{Sort}
-use Rattle.hph_accept.specs.declared.names.Sort.TheVariants.{Parameters, Constants, Properties, Methods}
-use Rattle.hph_accept.specs.Names.{same_of, spelled, names_of, repeats}
+use Rattle.hph_accept.specs.declared.names.Sort.TheVariants.{Constants, Properties, Methods}
+use Rattle.hph_accept.specs.Names.{same_of, spelled, names_of, repeats, Tracks}
 use Rattle.hph_accept.specs.Order.{earliest}
 use Rattle.hph_accept.specs.Parts.{member_of}
 use Rattle.hph_accept.proofs.ExpressionParts.{flat_map-map}
@@ -83,6 +84,18 @@ repeats_members-drop sort met xs i d h =
     ∙ ap (earliest met) (repeats-append sort done x left)
     ∙ earliest-append met (repeats sort done x) (repeats sort (done ++ x) left)
     ∙ ap (λ l. earliest (earliest met (repeats sort done x)) (repeats sort l left)) more
+
+-- the names that were met, behind those of no member and of one member more
+pub tracks_none : (sort : Sort) (met : Case × Option (List (List ℕ))) (before names : List Identifier) → names ≡ [] → Tracks sort met before → Tracks sort met (before ++ names)
+tracks_none sort met before names none h = subst (λ l. Tracks sort met l) (sym (append-nil before) ∙ ap (λ l. before ++ l) (sym none)) h
+
+pub tracks_more : (sort : Sort) (met : Case × Option (List (List ℕ))) (xs : List Member) (i : ℕ) (x : Member) → i < length xs → x ≡ get_or xs i x →
+    Tracks sort met (flat_map (names_of sort) (take i xs) ++ names_of sort x) → Tracks sort met (flat_map (names_of sort) (take (i + 1) xs))
+tracks_more sort met xs i x h is t =
+    let done = flat_map (names_of sort) (take i xs) in
+    let more : done ++ names_of sort x ≡ flat_map (names_of sort) (take (i + 1) xs) =
+    ap (λ y. done ++ names_of sort y) is ∙ flat_map_more (names_of sort) [] (take i xs) (get_or xs i x) ∙ ap (flat_map (names_of sort)) (sym (take_more xs i x h)) in
+    subst (λ l. Tracks sort met l) more t
 
 -- a test of the names of members
 pub declared-drop : (sort : Sort) (f : List ℕ → Bool) (xs : List Member) (i : ℕ) (d : Member) → i < length xs →

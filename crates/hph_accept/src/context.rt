@@ -5,10 +5,12 @@ ghost use Rattle.hph_ast.specs.RefusedStatements as statements;
 ghost use Rattle.hph_accept.specs.Enclosed.{seen};
 
 use crate::enclosing::Enclosing;
+use std::alloc::Global;
 
 /// Where a node stands: what is round it decides whether it is refused.
 #[derive(Clone, Copy)]
 pub struct Context<'a> {
+    pub alloc: Global,
     pub in_function: bool,
     /// `$this` is there: in a method that isn't static.
     pub has_this: bool,
@@ -21,10 +23,11 @@ pub struct Context<'a> {
 
 impl<'a> Context<'a> {
     /// Outside functions and classes.
-    pub fn top_level() -> Context<'a>
+    pub fn top_level(alloc: Global) -> Context<'a>
         ensures { seen result ≡ statements.top_level }
     {
         Context {
+            alloc,
             in_function: false,
             has_this: false,
             in_class: false,
@@ -35,23 +38,23 @@ impl<'a> Context<'a> {
     }
 
     /// In a function that is no method.
-    pub fn in_plain_function() -> Context<'a>
+    pub fn in_plain_function(alloc: Global) -> Context<'a>
         ensures { seen result ≡ statements.in_plain_function }
     {
         Context {
             in_function: true,
-            ..Context::top_level()
+            ..Context::top_level(alloc)
         }
     }
 
     /// Among the members of a class.
-    pub fn in_class(has_parent: bool) -> Context<'a>
+    pub fn in_class(alloc: Global, has_parent: bool) -> Context<'a>
         ensures { seen result ≡ statements.in_class has_parent }
     {
         Context {
             in_class: true,
             has_parent,
-            ..Context::top_level()
+            ..Context::top_level(alloc)
         }
     }
 

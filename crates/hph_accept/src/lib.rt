@@ -1,7 +1,8 @@
 //! The first construct of a file that is refused: one that a token tells, or one that the tree tells.
 //!
 //! Which constructs are refused, where, and in what order is defined in `hph_ast`; the two contracts here say that nothing
-//! else is answered. No memory is taken.
+//! else is answered. Memory is taken for names alone, to tell those that stand twice; where there is none, they are
+//! compared in pairs.
 #![tactic(auto)]
 
 mod classes;

@@ -3,9 +3,10 @@ ghost use Rattle.std.specs.Prelude.{◌≡◌, map};
 ghost use Rattle.std.specs.List.{list_any};
 ghost use Rattle.hph_ast.specs.declared.token.Identifier.{Identifier};
 ghost use Rattle.hph_ast.specs.Bytes as bytes;
-ghost use Rattle.hph_accept.specs.Names.{same_of, spelled};
+ghost use Rattle.hph_accept.specs.Names.{case_of, same_of, spelled};
 
 use hph_ast::{ConstantItem, Function, Identifier, Param, PropertyItem};
+use hph_names::Case;
 
 /// Names of one sort may not be the same; those of methods ignore ASCII case.
 #[derive(Clone, Copy, PartialEq, Eq)]
@@ -14,6 +15,18 @@ pub enum Sort {
     Constants,
     Properties,
     Methods,
+}
+
+impl Sort {
+    /// Whether names of the sort keep their case.
+    pub fn case(self) -> Case
+        ensures { result ≡ case_of self }
+    {
+        match self {
+            Sort::Methods => Case::Ignored,
+            Sort::Parameters | Sort::Constants | Sort::Properties => Case::Kept,
+        }
+    }
 }
 
 /// Whether a name is a word, in any ASCII case.

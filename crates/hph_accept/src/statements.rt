@@ -8,7 +8,7 @@ ghost use Rattle.hph_accept.specs.Order.{earliest};
 ghost use Rattle.hph_accept.specs.Enclosed.{seen};
 ghost use Rattle.hph_accept.specs.Parts.{member_of, members_found, function_of, case_found, else_if_found};
 
-use crate::classes::{duplicate_members, repeated};
+use crate::classes::{duplicate_members, repeated_parameters};
 use crate::context::Context;
 use crate::declarations::{
     all_bound, bad_break, constants, foreach_target, magic_method, maybe_bound, maybe_expression,
@@ -16,10 +16,10 @@ use crate::declarations::{
 };
 use crate::earliest::Earliest;
 use crate::expressions::{expression, expressions, include};
-use crate::names::Sort;
 use hph_ast::{
     Case, Class, Construct, ElseIf, Expr, FileTree, Function, Member, Prefix, Statement,
 };
+use std::alloc::Global;
 
 /// An expression that is a whole statement: an include is read as none in an expression.
 #[tactic(auto, using(crate::proofs::InTurn::in_turn))]
@@ -47,9 +47,13 @@ fn statement(met: Earliest, one: &Statement, context: Context<'_>) -> Earliest
         Statement::Block { body, .. } => statements(met, body.as_slice(), context),
         Statement::Expression { value, .. } => whole_statement(met, value.get(), context),
         Statement::Function { function: declared } => {
-            function(met, declared.get(), Context::in_plain_function())
+            function(
+                met,
+                declared.get(),
+                Context::in_plain_function(context.alloc),
+            )
         }
-        Statement::Class { class: declared } => class(met, declared.get()),
+        Statement::Class { class: declared } => class(met, declared.get(), context.alloc),
         Statement::If {
             test,
             body,
@@ -176,25 +180,29 @@ fn case(met: Earliest, one: &Case, context: Context<'_>) -> Earliest
 
 /// A function, whose parameters and body stand in `context`.
 #[cycle(statement)]
-#[tactic(auto, using(crate::proofs::StatementParts::the_parts, crate::proofs::InTurn::in_turn, crate::proofs::Repeats::repeats_all))]
+#[tactic(auto, using(crate::proofs::StatementParts::the_parts, crate::proofs::InTurn::in_turn))]
 fn function(met: Earliest, declared: &Function, context: Context<'_>) -> Earliest
     ensures { result ≡ earliest met ((function_of declared.now).refused (seen context.entry)) }
 {
     let params = declared.params.as_slice();
     let met = parameters(met, params, context);
-    let met = repeated(met, Sort::Parameters, &[], params);
+    let met = repeated_parameters(met, params, context.alloc);
     let met = maybe_type(met, &declared.result, context);
     statements(met, declared.body.as_slice(), context)
 }
 
 #[cycle(statement)]
 #[tactic(auto, using(crate::proofs::StatementParts::the_parts, crate::proofs::InTurn::in_turn))]
-fn class(met: Earliest, declared: &Class) -> Earliest
+fn class(met: Earliest, declared: &Class, alloc: Global) -> Earliest
     ensures { result ≡ earliest met (members_found declared.now) }
 {
     let all = declared.members.as_slice();
-    let met = duplicate_members(met, all);
-    members(met, all, Context::in_class(declared.parent.is_some()))
+    let met = duplicate_members(met, all, alloc);
+    members(
+        met,
+        all,
+        Context::in_class(alloc, declared.parent.is_some()),
+    )
 }
 
 #[cycle(statement)]
@@ -232,9 +240,10 @@ fn member(met: Earliest, one: &Member, context: Context<'_>) -> Earliest
 }
 
 /// The first construct that the tree tells, and its offset (this project's own list); none where the tree tells none.
+/// Names are compared in pairs where memory runs out.
 #[tactic(auto, using(crate::proofs::InTurn::earliest_found))]
-pub fn tree_construct(tree: &FileTree) -> Option<(Construct, u32)>
+pub fn tree_construct(alloc: Global, tree: &FileTree) -> Option<(Construct, u32)>
     ensures { result ≡ refused.tree_construct tree.now }
 {
-    statements(None, tree.statements.as_slice(), Context::top_level())
+    statements(None, tree.statements.as_slice(), Context::top_level(alloc))
 }

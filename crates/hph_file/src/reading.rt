@@ -22,7 +22,7 @@ pub fn read(alloc: Global, bytes: &[u8]) -> Result<FileTree, FileFault>
         return Err(FileFault::Construct { kind, offset });
     }
     let tree = tree(alloc, &tokens, bytes.len() as u32)?;
-    if let Some((kind, offset)) = tree_construct(&tree) {
+    if let Some((kind, offset)) = tree_construct(alloc, &tree) {
         return Err(FileFault::Construct { kind, offset });
     }
     Ok(tree)

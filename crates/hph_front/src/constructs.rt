@@ -91,11 +91,11 @@ fn leave_in_a_loop(alloc: Global, levels: Option<u64>) -> Result<FileTree, Fail>
 fn a_break_needs_as_many_loops_as_it_leaves(rt: HostRuntime) -> Result<(), Fail> {
     let alloc = rt.alloc();
     let bad = Some((Construct::BadBreak, 20));
-    assert!(rt; tree_construct(&file(alloc, leave(None))?) == bad);
-    assert!(rt; tree_construct(&leave_in_a_loop(alloc, None)?) == None);
-    assert!(rt; tree_construct(&leave_in_a_loop(alloc, Some(1))?) == None);
-    assert!(rt; tree_construct(&leave_in_a_loop(alloc, Some(0))?) == bad);
-    assert!(rt; tree_construct(&leave_in_a_loop(alloc, Some(2))?) == bad);
+    assert!(rt; tree_construct(alloc, &file(alloc, leave(None))?) == bad);
+    assert!(rt; tree_construct(alloc, &leave_in_a_loop(alloc, None)?) == None);
+    assert!(rt; tree_construct(alloc, &leave_in_a_loop(alloc, Some(1))?) == None);
+    assert!(rt; tree_construct(alloc, &leave_in_a_loop(alloc, Some(0))?) == bad);
+    assert!(rt; tree_construct(alloc, &leave_in_a_loop(alloc, Some(2))?) == bad);
     Ok(())
 }
 
@@ -104,6 +104,6 @@ fn this_is_refused_outside_methods(rt: HostRuntime) -> Result<(), Fail> {
     let alloc = rt.alloc();
     let value = Boxed::new(alloc, variable(alloc, b"this", 6)?)?;
     let tree = file(alloc, Statement::Expression { at: at(6), value })?;
-    assert!(rt; tree_construct(&tree) == Some((Construct::ThisOutside, 6)));
+    assert!(rt; tree_construct(alloc, &tree) == Some((Construct::ThisOutside, 6)));
     Ok(())
 }

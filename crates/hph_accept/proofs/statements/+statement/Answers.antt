@@ -1,6 +1,6 @@
 -- One item more; functions, classes, `if` and `for` in their parts.
 use Rattle.std.proofs.Common.{◌≡◌, ◌∙◌, ap, sym, arith, drop, get_or, ◌+◌, ◌++◌, []}
-use Rattle.std.specs.Prelude.{flat_map, map, is_some, bytes_eq, Option, None, Some}
+use Rattle.std.specs.Prelude.{flat_map, map, is_some, bytes_eq}
 use Rattle.std.proofs.lemmas.List.{append-nil}
 use Rattle.hph_ast.specs.declared.function.Param.{Param}
 use Rattle.hph_ast.specs.declared.function.Function.{out-Function}
@@ -11,13 +11,10 @@ use Rattle.hph_ast.specs.declared.stmt.Case.{Case}
 use Rattle.hph_ast.specs.declared.stmt.ElseIf.{ElseIf}
 use Rattle.hph_ast.specs.RefusedExpressions.{Context, Found, refused_in}
 use Rattle.hph_ast.specs.RefusedStatements.{maybe, in_class, in_loop, type_refused, param_refused, duplicates, duplicate_members, statement_refused}
-use Rattle.hph_accept.specs.declared.names.Sort.TheVariants.{Parameters}
 use Rattle.hph_accept.specs.Order.{earliest}
 use Rattle.hph_accept.specs.Enclosed.{seen}
-use Rattle.hph_accept.specs.Names.{repeats}
 use Rattle.hph_accept.specs.Parts.{member_of, function_of, case_found, else_if_found}
 use Rattle.hph_accept.proofs.InTurn.{earliest-append, earliest-drop, three_in_turn, four_in_turn}
-use Rattle.hph_accept.proofs.Repeats.{repeats_all}
 use Rattle.hph_accept.proofs.StatementParts.{refused-If, refused-For, function_refused}
 use Rattle.hph_accept.proofs.statements.+statement.Goals as goal
 
@@ -123,18 +120,18 @@ function-returns t c =
     let ctx : Context = seen c.args.context in
     let f = out-Function c.args.declared.now in
     let params = flat_map (λ x. param_refused x ctx) f.params in
-    let names = repeats Parameters [] (map (λ (x : Param). x.name) f.params) in
+    let names = duplicates bytes_eq [] (map (λ (x : Param). x.name) f.params) in
     let result = maybe type_refused f.result ctx in
     let body = flat_map (λ x. statement_refused x ctx) f.body in
     let first : c.parameters-met.result ≡ earliest c.args.met params =
     c.parameters-met.ensures ∙ ap (λ xs. earliest c.args.met (flat_map (λ x. param_refused x ctx) xs)) c.as_slice-params.ensures in
-    let second : c.repeated-met.result ≡ earliest c.parameters-met.result names =
-    c.repeated-met.ensures ∙ ap (λ xs. earliest c.parameters-met.result (repeats Parameters [] (map (λ (x : Param). x.name) xs))) c.as_slice-params.ensures in
-    let third : c.maybe_type-met.result ≡ earliest c.repeated-met.result result = c.maybe_type-met.ensures in
+    let second : c.repeated_parameters-met.result ≡ earliest c.parameters-met.result names =
+    c.repeated_parameters-met.ensures ∙ ap (λ xs. earliest c.parameters-met.result (duplicates bytes_eq [] (map (λ (x : Param). x.name) xs))) c.as_slice-params.ensures in
+    let third : c.maybe_type-met.result ≡ earliest c.repeated_parameters-met.result result = c.maybe_type-met.ensures in
     let last : c.statements.result ≡ earliest c.maybe_type-met.result body =
     c.statements.ensures ∙ ap (λ xs. earliest c.maybe_type-met.result (flat_map (λ x. statement_refused x ctx) xs)) c.as_slice.ensures in
     let whole : (function_of c.args.declared.now).refused ctx ≡ params ++ (names ++ (result ++ body)) =
-    function_refused c.args.declared.now ctx ∙ ap (λ l. params ++ (l ++ (result ++ body))) (sym (repeats_all Parameters (map (λ (x : Param). x.name) f.params))) in
+    function_refused c.args.declared.now ctx in
     last ∙ ap (λ m. earliest m body) (third ∙ ap (λ m. earliest m result) (second ∙ ap (λ m. earliest m names) first))
     ∙ four_in_turn c.args.met params names result body ∙ ap (earliest c.args.met) (sym whole)
 
