@@ -1,12 +1,10 @@
 -- One pair after another.
-use Rattle.std.proofs.Common.{◌≡◌, ◌∙◌, ◌+◌, ◌<◌, ◌≤◌, ◌==◌, ◌&&◌, ℕ, suc, zero, Bool, true, false, cond, List, [], ◌∷◌, ◌++◌, map, length, drop}
+use Rattle.std.proofs.Common.{◌≡◌, ◌∙◌, ◌+◌, ◌<◌, ◌==◌, ◌&&◌, ℕ, suc, zero, Bool, true, false, cond, List, [], ◌∷◌, map, length, drop}
 use Rattle.std.proofs.Common.{None, Some, Result, Ok, Err, refl, sym, ap, arith}
 use Rattle.std.specs.Prelude.{slice_get}
 use Rattle.std.specs.Option.{option_map}
 use Rattle.std.specs.Map.{lookup}
 use Rattle.std.proofs.lemmas.Bool.{ne_eqb, eq-eqb}
-use Rattle.std.proofs.lemmas.List.Sums.{fold-append, sum_by_push}
-use Rattle.std.proofs.Math.ListN.{drop_of_length-le}
 use Rattle.hph_array.specs.declared.key.Key.{Key}
 use Rattle.hph_array.specs.Key.{key_eq}
 use Rattle.hph_array.specs.Array.{Array, array_map, get}
@@ -19,9 +17,8 @@ use Rattle.hph_value.specs.Shown.{value_of}
 use Rattle.hph_value.proofs.Shown as values
 use Rattle.hph_equal.specs.declared.frame.Equality.{Equality}
 use Rattle.hph_equal.specs.declared.frame.Equality.TheVariants.{Loose, Strict}
-use Rattle.hph_equal.specs.declared.frame.Frame.{Frame}
 use Rattle.hph_equal.specs.declared.equal.Outcome.TheVariants.{Known}
-use Rattle.hph_equal.specs.Frames.{equal_by, is_array, pairs_shown, left_of, left, after, nodes, nodes_in, size_of, size, work, AreNext, AreEntered, Answers, Keeps, GoesOn}
+use Rattle.hph_equal.specs.Frames.{equal_by, is_array, pairs_shown, left_of, nodes, nodes_in, size_of, AreNext, Answers}
 
 pub ruleset shown = (values.null_shown, values.bool_shown, values.int_shown, values.str_shown, values.obj_shown, values.arr_shown)
 
@@ -205,90 +202,3 @@ strict_longer x y i q past at = (λ j. Ok (same_pairs (pairs_shown (drop_past x.
 
 pub strict_end : (x y : Array code.Value) (i : ℕ) → slice_get x.pairs i ≡ None → slice_get y.pairs i ≡ None → left_of Strict x y i ≡ Ok true
 strict_end x y i past other = (λ j. Ok (same_pairs (pairs_shown (drop_past x.pairs i past j)) (pairs_shown (drop_past y.pairs i other j))))
-
--- ---- the list
-
-done : (equality : Equality) (x y : Array code.Value) (i : ℕ) → length x.pairs ≤ i → length y.pairs ≤ i → left_of equality x y i ≡ Ok true
-done Loose x y i p q = ap (λ l. each_in (pairs_shown l) (array_map value_of y)) (drop_of_length-le x.pairs p)
-done Strict x y i p q = (λ j. Ok (same_pairs (pairs_shown (drop_of_length-le x.pairs p j)) (pairs_shown (drop_of_length-le y.pairs q j))))
-
-pub left_out : (frame : Frame) (frames : List Frame) → length frame.x.now.pairs ≤ frame.at → length frame.y.now.pairs ≤ frame.at → Keeps frame frames frames
-left_out frame frames p q = record {
-  answer = λ equality. ap (λ first. and_also first (after equality frames)) (done equality frame.x.now frame.y.now frame.at p q);
-  less = omega arith;
-}
-
-pub put_on : (frame : Frame) (frames new : List Frame) → new ≡ frames ++ frame ∷ [] → Keeps frame frames new
-put_on frame frames new e = record {
-  answer = λ equality. sym (ap (after equality) e ∙ fold-append (λ rest frame. and_also (left equality frame) rest) (Ok true) frames (frame ∷ []));
-  less =
-      let sums : work (frames ++ frame ∷ []) ≡ work frames + suc (size frame) = sum_by_push (λ f. suc (size f)) frames frame in
-      let all : work new ≡ work (frames ++ frame ∷ []) = ap work e in
-      omega arith;
-}
-
-also_again : (a b c : Result Bool Fatal) → and_also (and_also a b) c ≡ and_also a (and_also b c)
-also_again (Ok true) b c = refl
-also_again (Ok false) b c = refl
-also_again (Err fatal) b c = refl
-
-a_node : (a : Value) → 0 < nodes a
-a_node Null = omega arith
-a_node (Boolean x) = omega arith
-a_node (Int x) = omega arith
-a_node (Str x) = omega arith
-a_node (Obj x) = omega arith
-a_node (Arr xs n) = omega arith
-
--- what an answer to the next pair of the top frame gives
-module _ (equality : Equality) (top : Frame) (old : List Frame) where
-  pub ends : left equality top ≡ Ok true → old ≡ [] → and_also (left equality top) (after equality old) ≡ Ok true
-  ends p e = ap (λ first. and_also first (after equality old)) p ∙ ap (after equality) e
-
-  pub pops : (next : Frame) (new : List Frame) → left equality top ≡ Ok true → old ≡ new ++ next ∷ [] → GoesOn equality next top old new
-  pops next new p e = record {
-    answer =
-        ap (λ first. and_also first (after equality old)) p
-        ∙ (ap (after equality) e ∙ fold-append (λ rest frame. and_also (left equality frame) rest) (Ok true) new (next ∷ []));
-    less =
-        let sums : work (new ++ next ∷ []) ≡ work new + suc (size next) = sum_by_push (λ f. suc (size f)) new next in
-        let all : work old ≡ work (new ++ next ∷ []) = ap work e in
-        omega arith;
-  }
-
-  pub misses : left equality top ≡ Ok false → and_also (left equality top) (after equality old) ≡ Ok false
-  misses p = ap (λ first. and_also first (after equality old)) p
-
-  module _ (v w : code.Value) (next : AreNext equality v w top.x.now top.y.now top.at) where
-    with_answer : (r : Result Bool Fatal) → equal_by equality (value_of v) (value_of w) ≡ r
-        → and_also (left equality top) (after equality old) ≡ and_also r (and_also (left_of equality top.x.now top.y.now (top.at + 1)) (after equality old))
-    with_answer r e =
-        ap (λ first. and_also first (after equality old)) (next.answer ∙ ap (λ first. and_also first (left_of equality top.x.now top.y.now (top.at + 1))) e)
-        ∙ also_again r (left_of equality top.x.now top.y.now (top.at + 1)) (after equality old)
-
-    pub differs : equal_by equality (value_of v) (value_of w) ≡ Ok false → and_also (left equality top) (after equality old) ≡ Ok false
-    differs e = with_answer (Ok false) e
-
-    pub fails : (fatal : Fatal) → equal_by equality (value_of v) (value_of w) ≡ Err fatal → and_also (left equality top) (after equality old) ≡ Err fatal
-    fails fatal e = with_answer (Err fatal) e
-
-    module _ (behind : Frame) (x : behind.x.now ≡ top.x.now) (y : behind.y.now ≡ top.y.now) (at : behind.at ≡ top.at + 1) where
-      left_behind : left_of equality top.x.now top.y.now (top.at + 1) ≡ left equality behind
-      left_behind = (λ i. left_of equality (sym x i) (sym y i) (sym at i))
-
-      size_behind : size_of top.x.now (top.at + 1) ≡ size behind
-      size_behind = (λ i. size_of (sym x i) (sym at i))
-
-      pub agrees : equal_by equality (value_of v) (value_of w) ≡ Ok true → GoesOn equality behind top old old
-      agrees e = record {
-        answer = with_answer (Ok true) e ∙ ap (λ first. and_also first (after equality old)) left_behind;
-        less = omega (arith, next.sizes, size_behind, a_node (value_of v));
-      }
-
-      pub enters : (inner : Frame) (new : List Frame) → AreEntered equality inner (value_of v) (value_of w) → Keeps behind old new → GoesOn equality inner top old new
-      enters inner new entered keeps = record {
-        answer =
-            with_answer (left equality inner) entered.answer
-            ∙ ap (λ rest. and_also (left equality inner) rest) (ap (λ first. and_also first (after equality old)) left_behind ∙ keeps.answer equality);
-        less = omega (arith, next.sizes, size_behind, entered.smaller, keeps.less);
-      }
