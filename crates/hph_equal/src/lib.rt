@@ -7,4 +7,5 @@ mod apart;
 mod equal;
 mod frame;
 
+pub use apart::array_in;
 pub use equal::{loose_eq, strict_eq};
