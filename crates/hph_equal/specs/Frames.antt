@@ -3,7 +3,10 @@
 use Rattle.std.specs.Prelude.{◌≡◌, ◌+◌, ◌<◌, ◌≤◌, ℕ, suc, Bool, true, false, List, map, drop, length, Option, None, Some, Result, Ok, Err}
 use Rattle.std.specs.List.{fold, sum_by}
 use Rattle.std.specs.Borrow.{Bor}
+use Rattle.std.specs.Prelude.{pos}
+use Rattle.std.proofs.Common.{refl}
 use Rattle.hph_array.specs.declared.key.Key.{Key}
+use Rattle.hph_array.specs.declared.key.Key.TheVariants as key
 use Rattle.hph_array.specs.Array.{Array, array_map}
 use Rattle.hph_php.specs.declared.fatal.Fatal.{Fatal}
 use Rattle.hph_php.specs.Values.{Value, Null, Boolean, Int, Str, Arr, Obj, Pairs, no_pair, pair, paired, array_value}
@@ -70,6 +73,10 @@ abbrev mutual
   pub nodes_in : Pairs → ℕ
   nodes_in no_pair = 0
   nodes_in (pair key value rest) = nodes value + nodes_in rest
+
+-- `[[null]]`: two for each array, one for null
+array_in_array : nodes (Arr (pair (key.Int (pos 0)) (Arr (pair (key.Int (pos 0)) Null no_pair) 1) no_pair) 1) ≡ 5
+array_in_array = refl
 
 abbrev pub size_of : Array code.Value → ℕ → ℕ
 size_of x at = nodes_in (pairs_shown (drop at x.pairs))

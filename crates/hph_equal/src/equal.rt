@@ -30,8 +30,8 @@ enum Progress<'a> {
     Going(Frame<'a>),
 }
 
-/// `==`. `Float` where PHP compares with a float, `ObjectCompare` for an object with anything but itself, null and bools. It
-/// takes memory only for arrays that hold arrays.
+/// `==`. `Float` where PHP compares with a float, `ObjectCompare` for an object with anything but itself, null and bools. Values
+/// that aren't both arrays take no memory, and arrays take it only where one is entered with pairs left behind it.
 pub fn loose_eq(alloc: Global, x: &Value, y: &Value) -> Result<bool, Stop>
     ensures answer { TellsBy (λ equal. equal) result (php.loosely_equal (value_of x.now) (value_of y.now)) }
     ensures left { result ≡ Err NoMemory → is_array (value_of x.now) ≡ true }
@@ -40,7 +40,7 @@ pub fn loose_eq(alloc: Global, x: &Value, y: &Value) -> Result<bool, Stop>
     equal(alloc, Equality::Loose, x, y)
 }
 
-/// `===`, which has no fatal errors. It takes memory only for arrays that hold arrays.
+/// `===`, which has no fatal errors. It takes memory as `==` does.
 pub fn strict_eq(alloc: Global, x: &Value, y: &Value) -> Result<bool, Stop>
     ensures answer { TellsBy (λ equal. equal) result (Ok (php.identical (value_of x.now) (value_of y.now))) }
     ensures left { result ≡ Err NoMemory → is_array (value_of x.now) ≡ true }
