@@ -1,0 +1,63 @@
+ghost use Rattle.std.specs.Prelude.{◌≡◌, IfSome, IsTrue};
+ghost use Rattle.hph_table.specs.Seats.{AreSeated, new_view};
+ghost use Rattle.hph_machine_tests.specs.TwoSeats.{reader, yielder};
+
+use hph_core::Hold;
+use hph_sys::examples::Two;
+use hph_table::{Seat, Shared};
+use hph_type::Ty;
+use std::test::Fail;
+
+// The seats of a table with two, in order of their numbers.
+fn both_seats(shared: &Shared<Two>, mut seats: Vec<Seat<Two>>) -> Option<(Seat<Two>, Seat<Two>)>
+    requires { AreSeated shared.now.0 2 seats.items }
+    ensures first { IfSome result (λ both. (both.0.0 ≡ shared.now.0) × (both.0.1 ≡ new_view 2 0)) }
+    ensures second { IfSome result (λ both. (both.1.0 ≡ shared.now.0) × (both.1.1 ≡ new_view 2 1)) }
+{
+    let second = seats.pop()?;
+    let first = seats.pop()?;
+    Some((first, second))
+}
+
+// Seat 0 takes scope 0, holds it and reads cell 0, and each call answers as its row says.
+fn first_reads(shared: &Shared<Two>, seat: &mut Seat<Two>) -> bool
+    requires seat { seat.old.0 ≡ shared.now.0 }
+    requires view { seat.old.1 ≡ new_view 2 0 }
+    ensures seat { seat.new.0 ≡ shared.now.0 }
+    ensures view { IsTrue result → seat.new.1 ≡ reader }
+{
+    if !shared.take(seat, 0) {
+        return false;
+    }
+    match shared.try_hold(seat, 0) {
+        Hold::Got => shared.cell(seat, 0) == Ty::none(),
+        Hold::Busy(_) => false,
+    }
+}
+
+// Seat 1 takes scope 1, finds scope 0 held by seat 0, and puts scope 1 back.
+fn second_yields(shared: &Shared<Two>, seat: &mut Seat<Two>) -> bool
+    requires seat { seat.old.0 ≡ shared.now.0 }
+    requires view { seat.old.1 ≡ new_view 2 1 }
+    ensures seat { seat.new.0 ≡ shared.now.0 }
+    ensures view { IsTrue result → seat.new.1 ≡ yielder }
+{
+    if !shared.take(seat, 1) {
+        return false;
+    }
+    match shared.try_hold(seat, 0) {
+        Hold::Got => false,
+        Hold::Busy(holder) => shared.put_back(seat, 1) && holder == 0,
+    }
+}
+
+#[test]
+fn two_seats_meet(rt: HostRuntime) -> Result<(), Fail> {
+    let two = Two::new(rt.alloc())?;
+    let (shared, seats) = Shared::new(rt.alloc(), &two, 2)?;
+    let (mut first, mut second) = both_seats(&shared, seats).ok_or("two seats")?;
+    assert!(rt; first_reads(&shared, &mut first));
+    assert!(rt; second_yields(&shared, &mut second));
+    assert!(rt; shared.pending(&mut second) == 2);
+    Ok(())
+}
