@@ -1,11 +1,11 @@
 ghost use Rattle.std.specs.Prelude.{◌≡◌, IfSome, IsTrue};
 ghost use Rattle.hph_table.specs.Seats.{AreSeated, new_view};
-ghost use Rattle.hph_machine_tests.specs.TwoSeats.{reader, yielder};
+ghost use Rattle.hph_machine_tests.specs.TwoSeats.{reader, payer, raiser, yielder, looker, finder};
 
 use hph_core::Hold;
 use hph_sys::examples::Two;
 use hph_table::{Seat, Shared};
-use hph_type::Ty;
+use hph_type::{Kind, Ty};
 use std::test::Fail;
 
 // The seats of a table with two, in order of their numbers.
@@ -47,17 +47,84 @@ fn second_yields(shared: &Shared<Two>, seat: &mut Seat<Two>) -> bool
     }
     match shared.try_hold(seat, 0) {
         Hold::Got => false,
-        Hold::Busy(holder) => shared.put_back(seat, 1) && holder == 0,
+        Hold::Busy(holder) => {
+            shared.put_back(seat, 1) && shared.pending(seat) == 2 && holder == 0
+        }
     }
 }
 
+// Seat 0 owes a unit for a mark of scope 1, which waits already, and pays it.
+fn first_pays(shared: &Shared<Two>, seat: &mut Seat<Two>) -> bool
+    requires seat { seat.old.0 ≡ shared.now.0 }
+    requires view { seat.old.1 ≡ reader }
+    ensures seat { seat.new.0 ≡ shared.now.0 }
+    ensures view { IsTrue result → seat.new.1 ≡ payer }
+{
+    shared.pending_add(seat);
+    let owed = shared.pending(seat);
+    if shared.mark(seat, 1) {
+        return false;
+    }
+    shared.pending_drop(seat);
+    owed == 3 && shared.pending(seat) == 2
+}
+
+// It raises cell 0, and is done.
+fn first_raises(shared: &Shared<Two>, seat: &mut Seat<Two>) -> bool
+    requires seat { seat.old.0 ≡ shared.now.0 }
+    requires view { seat.old.1 ≡ payer }
+    ensures seat { seat.new.0 ≡ shared.now.0 }
+    ensures view { IsTrue result → seat.new.1 ≡ raiser }
+{
+    shared.raise(seat, 0, Ty::only(Kind::Int));
+    shared.pending_drop(seat);
+    shared.release(seat, 0);
+    shared.pending(seat) == 1
+}
+
+// Seat 1 takes scope 1, holds both scopes and reads both cells.
+fn second_reads(shared: &Shared<Two>, seat: &mut Seat<Two>) -> bool
+    requires seat { seat.old.0 ≡ shared.now.0 }
+    requires view { seat.old.1 ≡ yielder }
+    ensures seat { seat.new.0 ≡ shared.now.0 }
+    ensures view { IsTrue result → seat.new.1 ≡ looker }
+{
+    if !shared.take(seat, 1) {
+        return false;
+    }
+    if shared.try_hold(seat, 0) != Hold::Got {
+        return false;
+    }
+    if shared.try_hold(seat, 1) != Hold::Got {
+        return false;
+    }
+    shared.cell(seat, 0) == Ty::only(Kind::Int) && shared.cell(seat, 1) == Ty::none()
+}
+
+// It raises cell 1, is done, and finds nothing pending.
+fn second_raises(shared: &Shared<Two>, seat: &mut Seat<Two>) -> bool
+    requires seat { seat.old.0 ≡ shared.now.0 }
+    requires view { seat.old.1 ≡ looker }
+    ensures seat { seat.new.0 ≡ shared.now.0 }
+    ensures view { IsTrue result → seat.new.1 ≡ finder }
+{
+    shared.raise(seat, 1, Ty::only(Kind::Int));
+    shared.pending_drop(seat);
+    shared.release(seat, 1);
+    shared.release(seat, 0);
+    shared.pending(seat) == 0
+}
+
 #[test]
-fn two_seats_meet(rt: HostRuntime) -> Result<(), Fail> {
+fn two_seats_find_int(rt: HostRuntime) -> Result<(), Fail> {
     let two = Two::new(rt.alloc())?;
     let (shared, seats) = Shared::new(rt.alloc(), &two, 2)?;
     let (mut first, mut second) = both_seats(&shared, seats).ok_or("two seats")?;
     assert!(rt; first_reads(&shared, &mut first));
     assert!(rt; second_yields(&shared, &mut second));
-    assert!(rt; shared.pending(&mut second) == 2);
+    assert!(rt; first_pays(&shared, &mut first));
+    assert!(rt; first_raises(&shared, &mut first));
+    assert!(rt; second_reads(&shared, &mut second));
+    assert!(rt; second_raises(&shared, &mut second));
     Ok(())
 }
