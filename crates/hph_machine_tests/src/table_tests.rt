@@ -1,4 +1,6 @@
-ghost use Rattle.std.specs.Prelude.{◌≡◌, IfSome, IsTrue};
+ghost use Rattle.std.specs.Prelude.{◌≡◌, IfSome, IfOk, IsTrue};
+ghost use Rattle.hph_sys.specs.Least.{IsLeast};
+ghost use Rattle.hph_sys.specs.Two.{two};
 ghost use Rattle.hph_table.specs.Seats.{AreSeated, new_view};
 ghost use Rattle.hph_machine_tests.specs.TwoSeats.{reader, payer, raiser, yielder, looker, finder};
 
@@ -6,6 +8,7 @@ use hph_core::Hold;
 use hph_sys::examples::Two;
 use hph_table::{Seat, Shared};
 use hph_type::{Kind, Ty};
+use std::alloc::{AllocError, Global};
 use std::test::Fail;
 
 // The seats of a table with two, in order of their numbers.
@@ -115,6 +118,25 @@ fn second_raises(shared: &Shared<Two>, seat: &mut Seat<Two>) -> bool
     shared.pending(seat) == 0
 }
 
+// Ends the table, where both are done. Its cells are the least typing, since seat 1 found nothing pending.
+fn ends(
+    alloc: Global,
+    shared: Shared<Two>,
+    first: Seat<Two>,
+    second: Seat<Two>,
+) -> Result<Vec<Ty>, AllocError>
+    requires workers { shared.1.workers ≡ 2 }
+    requires first { (first.0 ≡ shared.0) × (first.1 ≡ raiser) }
+    requires second { (second.0 ≡ shared.0) × (second.1 ≡ finder) }
+    ensures { IfOk result (λ cells. IsLeast two cells.items) }
+{
+    let mut seats = Vec::new(alloc);
+    seats.push(first)?;
+    seats.push(second)?;
+    let cells = shared.close(alloc, seats)?;
+    Ok(cells)
+}
+
 #[test]
 fn two_seats_find_int(rt: HostRuntime) -> Result<(), Fail> {
     let two = Two::new(rt.alloc())?;
@@ -126,5 +148,8 @@ fn two_seats_find_int(rt: HostRuntime) -> Result<(), Fail> {
     assert!(rt; first_raises(&shared, &mut first));
     assert!(rt; second_reads(&shared, &mut second));
     assert!(rt; second_raises(&shared, &mut second));
+    let cells = ends(rt.alloc(), shared, first, second)?;
+    let int = Ty::only(Kind::Int);
+    assert!(rt; cells.as_slice() == [int, int].as_slice());
     Ok(())
 }
