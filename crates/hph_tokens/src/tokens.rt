@@ -562,7 +562,10 @@ fn describe(alloc: Global, tokens: &[Token]) -> Result<String, AllocError> {
 
 fn gives_these(rt: &impl Abort, alloc: Global, rows: &[(&[u8], &str)]) -> Result<(), Fail> {
     for (file, wanted) in rows {
-        let found = outcome_of(rt, alloc, file)?;
+        let found = match outcome_of(rt, alloc, file) {
+            Ok(found) => found,
+            Err(_) => panic!(rt; "{file:?} spells no tokens"),
+        };
         let described = describe(alloc, found.as_slice())?;
         assert_eq!(rt; described.as_str(), *wanted, "of {file:?}");
     }
