@@ -5,7 +5,5 @@
 #![tactic(auto)]
 
 mod layout;
-#[cfg(test)]
-mod tests;
 
 pub use layout::module;

@@ -1,4 +1,4 @@
-//! Tests of the libraries that check, write and lay out modules: a module is read from text, or laid out from nodes.
+//! Tests of the validator of modules: a module is read from bytes, of which many come from text.
 #![tactic(auto)]
 
 #[cfg(test)]

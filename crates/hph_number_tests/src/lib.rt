@@ -1,4 +1,4 @@
-//! Tests of the libraries of whole numbers, tables, LEB128, types and operators.
+//! Tests of the libraries of whole numbers, tables, LEB128, types, systems of typing rules and operators.
 #![tactic(auto)]
 
 #[cfg(test)]
@@ -7,6 +7,8 @@ mod cases;
 mod codes;
 #[cfg(test)]
 mod leb128;
+#[cfg(test)]
+mod systems;
 #[cfg(test)]
 mod types;
 #[cfg(test)]

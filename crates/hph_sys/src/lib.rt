@@ -10,6 +10,3 @@ pub mod laws;
 mod system;
 
 pub use system::System;
-
-#[cfg(test)]
-mod tests;

@@ -21,8 +21,6 @@ mod module;
 mod opcodes;
 mod put;
 mod tables;
-#[cfg(test)]
-mod tests;
 mod types;
 
 pub use laws::spellings_are_spelled;

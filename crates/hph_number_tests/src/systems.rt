@@ -1,8 +1,8 @@
 ghost use Rattle.std.specs.Prelude.{◌≡◌, ◌<◌, IfOk};
 ghost use Rattle.hph_sys.specs.Shape.{IsTyping};
 
-use crate::System;
-use crate::examples::Two;
+use hph_sys::System;
+use hph_sys::examples::Two;
 use hph_type::{Kind, Ty};
 use std::alloc::AllocError;
 use std::test::Fail;
