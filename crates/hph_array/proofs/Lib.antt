@@ -1,4 +1,5 @@
 pub mod Places
+pub mod Rising
 pub mod NextKeyLaws
 pub mod MapSteps
 pub mod ArrayLaws

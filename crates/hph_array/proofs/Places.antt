@@ -13,7 +13,7 @@ use Rattle.hph_array.specs.Key.{key_eq}
 use Rattle.hph_array.specs.Array.{put}
 
 -- The successor, as a sum.
-one_more : (p : ℕ) → suc p ≡ 1 + p
+pub one_more : (p : ℕ) → suc p ≡ 1 + p
 one_more p = omega arith
 
 -- A choice between Some and None that gives Some.

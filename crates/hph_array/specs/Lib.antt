@@ -1,4 +1,5 @@
 pub mod Bytes
 pub mod Key
+pub mod Keys
 pub mod Array
 pub mod formers

@@ -7,6 +7,7 @@
 
 mod bytes;
 mod key;
+mod keys;
 mod map;
 mod shared;
 
@@ -14,6 +15,3 @@ pub use bytes::Bytes;
 pub use key::Key;
 pub use map::{AppendFault, OrdMap};
 pub use shared::Shared;
-
-#[cfg(test)]
-mod tests;

@@ -1,12 +1,12 @@
 ghost use Rattle.std.specs.Prelude.{◌≡◌, [], ◌∷◌, ◌++◌, ◌==◌, ◌<◌, ◌≤◌, ◌^◌, ◌↔◌, length, false, OnOk, OnErr, IfOk, IsOk, IsSome, Err, Some, slice_get, slice_set};
 ghost use Rattle.std.specs.Option.{option_copied, option_map, is_some};
+ghost use Rattle.std.specs.List.{list_any};
 ghost use Rattle.std.specs.Map.{values_of};
-ghost use Rattle.indexmap.specs.IndexSet.{contains};
 ghost use Rattle.hph_array.specs.Key.{key_eq};
 ghost use Rattle.hph_array.specs.Array.{IsArray, get, set, append, unset, replace, last, pop, fallen};
 
 use crate::key::Key;
-use indexmap::IndexSet;
+use crate::keys::Keys;
 use std::alloc::{AllocError, Global};
 use std::marker::Model;
 use std::mem;
@@ -35,7 +35,7 @@ impl From<AllocError> for AppendFault {
 /// the next append.
 #[derive(Drop)]
 pub struct OrdMap<V> {
-    keys: IndexSet<Key>,
+    keys: Keys,
     values: Vec<V>,
     next: u64,
 }
@@ -48,9 +48,9 @@ impl<V> Model for OrdMap<V> {
 
     ghost coded = { array_code V.code };
 
-    ghost view = { λ m. record { pairs = zip m.keys.keys m.values.items; next_key = m.next } };
+    ghost view = { λ m. record { pairs = zip m.keys m.values.items; next_key = m.next } };
 
-    ghost invariant = { λ m. MakeArray m.keys.keys m.values.items m.next };
+    ghost invariant = { λ m. MakeArray m.keys m.values.items m.next };
 }
 
 impl<V> OrdMap<V> {
@@ -60,7 +60,7 @@ impl<V> OrdMap<V> {
         ensures next_key { result.next_key ≡ 0 }
     {
         OrdMap {
-            keys: IndexSet::new(alloc),
+            keys: Keys::new(alloc),
             values: Vec::new(alloc),
             next: 0,
         }
@@ -92,7 +92,7 @@ impl<V> OrdMap<V> {
     pub fn get(&self, key: &Key) -> Option<&V>
         ensures { option_copied result ≡ get self.now key.now }
     {
-        let at = self.keys.get_index_of(key)?;
+        let at = self.keys.place_of(key)?;
         item(&self.values, at)
     }
 
@@ -114,7 +114,7 @@ impl<V> OrdMap<V> {
     pub fn at(&self, index: usize) -> Option<(&Key, &V)>
         ensures { option_map (λ p. (p.0.now, p.1.now)) result ≡ slice_get self.now.pairs index }
     {
-        let key = self.keys.get_index(index)?;
+        let key = self.keys.at(index)?;
         let value = item(&self.values, index)?;
         Some((key, value))
     }
@@ -129,7 +129,7 @@ impl<V: Drop> OrdMap<V> {
         ensures there { IsSome (get self.old key) → IsOk result }
     {
         let past = key.number_after();
-        if let Some(at) = self.keys.get_index_of(&key) {
+        if let Some(at) = self.keys.place_of(&key) {
             self.values[at] = value;
             return Ok(());
         }
@@ -160,7 +160,7 @@ impl<V: Drop> OrdMap<V> {
         ensures rest { self.new ≡ unset self.old key.now }
         ensures found { result ≡ is_some (get self.old key.now) }
     {
-        let Some((at, _)) = self.keys.shift_remove_full(key) else {
+        let Some(at) = self.keys.remove(key) else {
             return false;
         };
         self.values.remove(at);
@@ -185,7 +185,7 @@ impl<V: Drop> OrdMap<V> {
         ensures value { result ≡ get self.old key.now }
         ensures rest { self.new ≡ replace self.old key.now empty }
     {
-        let place = self.keys.get_index_of(key)?;
+        let place = self.keys.place_of(key)?;
         Some(exchange(&mut self.values, place, empty))
     }
 }
@@ -213,19 +213,19 @@ fn item<T>(items: &[T], at: usize) -> Option<&T>
 
 // Puts a new key and its value last, both or neither.
 fn push_pair<V: Drop>(
-    keys: &mut IndexSet<Key>,
+    keys: &mut Keys,
     values: &mut Vec<V>,
     key: Key,
     value: V,
 ) -> Result<(), AllocError>
-    requires { contains key_eq keys.old key ≡ false }
-    ensures keys { OnOk result (keys.new.keys ≡ keys.old.keys ++ key ∷ []) }
+    requires { list_any (key_eq key) keys.old ≡ false }
+    ensures keys { OnOk result (keys.new ≡ keys.old ++ key ∷ []) }
     ensures values { OnOk result (values.new.items ≡ values.old.items ++ value ∷ []) }
-    ensures keys_stay { OnErr result (keys.new.keys ≡ keys.old.keys) }
+    ensures keys_stay { OnErr result (keys.new ≡ keys.old) }
     ensures values_stay { OnErr result (values.new.items ≡ values.old.items) }
 {
     values.push(value)?;
-    match keys.insert_full(key) {
+    match keys.push(key) {
         Ok(_) => Ok(()),
         Err(_) => {
             values.pop();

@@ -7,10 +7,7 @@ use lib.ListN.{length-map}
 use Rattle.std.specs.declared.alloc.Global.{Global}
 use Rattle.std.specs.contracts.alloc.Global as global
 use Rattle.std.specs.contracts.impls.GlobalAllocator.TheImpl.{ghosts}
-use Rattle.std.specs.declared.hash.FoldHasher.{FoldHasher}
-use Rattle.std.specs.declared.hash.BuildHasherDefault.{BuildHasherDefault}
 use Rattle.std.specs.formers.vec.Vec as vec
-use Rattle.indexmap.specs.IndexSet.{IndexSet}
 use mathlib.Core.Former.{Former, Count, Row, one_more, this, const, pair, list, via, list_count, list_put, children}
 use native.Mathlib.Nat.{ℕ_set}
 use native.Mathlib.Bridge.{le_prop}
@@ -89,7 +86,7 @@ the_items_listed X a = pairs_listed X a.pairs
 -- the fields of a map, with the values that they hold
 abbrev fields : Former {0}
 fields =
-    via (pair (const (IndexSet Key (BuildHasherDefault FoldHasher)))
+    via (pair (const (List Key))
     (pair (vec.the_former this Global) (const ℕ))) Inside
     (λ X m. (m.keys, (m.values, m.next))) (λ X parts. record { keys = parts.0; values = parts.1.0; next = parts.1.1 })
     (λ X m. refl) (λ X parts. refl)
@@ -138,15 +135,15 @@ module _ (R R' : RattleType) (h : R.Denot → R'.Denot) where
       → Alike (contract.the_row R) (contract.the_row R') ((the_former this).map R.Denot R'.Denot h)
   the_places a =
       view_places_where fields (the_former this) view
-      (λ X Y k m i. record { pairs = zip-map k m.keys.keys m.values.items i; next_key = m.next })
-      (λ X m. length m.values.items ≡ length m.keys.keys)
+      (λ X Y k m i. record { pairs = zip-map k m.keys m.values.items i; next_key = m.next })
+      (λ X m. length m.values.items ≡ length m.keys)
       (λ X Y k m e. sym (length-map m.values.items k) ∙ e)
-      (λ X m e. held-zip X m.keys.keys m.values.items e)
+      (λ X m e. held-zip X m.keys m.values.items e)
       R.Denot R'.Denot h (contract.the_row R).coded (contract.the_row R').coded
       (invariant R.Denot) (invariant R'.Denot)
-      (λ m. MakeArray-prop m.keys.keys m.values.items m.next) (λ m. MakeArray-prop m.keys.keys m.values.items m.next)
-      (λ m. MakeArray-map h m.keys.keys m.values.items m.next)
-      (λ m. MakeArray-unmap h m.keys.keys m.values.items m.next)
+      (λ m. MakeArray-prop m.keys m.values.items m.next) (λ m. MakeArray-prop m.keys m.values.items m.next)
+      (λ m. MakeArray-map h m.keys m.values.items m.next)
+      (λ m. MakeArray-unmap h m.keys m.values.items m.next)
       (λ m make. make.same_length)
       (over (inside.the_row R)) (over (inside.the_row R'))
       (struct_places (inside.the_type R) (inside.the_type R') (λ keys. keys, (vec.mapped h, (λ next. next, tt))) _

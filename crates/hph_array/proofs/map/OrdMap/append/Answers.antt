@@ -13,8 +13,8 @@ pub invariant_of-self-2 : goal.invariant_of-self-2
 invariant_of-self-2 g c =
     let key = int_key c.self.inside.next c.self.invariant.within c.if-self.false in
     rw (c.in_ok-push_pair.ensures.keys, c.in_ok-push_pair.ensures.values) record {
-      same_length = length-push c.self.inside.keys.keys c.self.inside.values.items _ _ c.self.invariant.same_length;
-      below = AreBelow-push (c.self.inside.next + 1) c.self.inside.keys.keys _
+      same_length = length-push c.self.inside.keys c.self.inside.values.items _ _ c.self.invariant.same_length;
+      below = AreBelow-push (c.self.inside.next + 1) c.self.inside.keys _
           (AreBelow-rise _ _ _ c.self.invariant.below (omega arith)) (omega (arith, ap number_after key));
       within = omega (arith, c.self.invariant.within, c.if-self.false);
     }
@@ -23,5 +23,5 @@ pub returns-clause-ok : goal.returns-clause-ok
 returns-clause-ok g c =
     let key = int_key c.self.inside.next c.self.invariant.within c.if-self.false in
     rw (← c.self.view_is, c.in_ok-push_pair.ensures.keys, c.in_ok-push_pair.ensures.values)
-    (append-whole c.self.inside.keys.keys c.self.inside.values.items c.self.inside.next
+    (append-whole c.self.inside.keys c.self.inside.values.items c.self.inside.next
     c.self.invariant.same_length _ c.args.value key)
