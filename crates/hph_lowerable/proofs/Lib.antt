@@ -13,3 +13,4 @@ pub mod IncludePaths
 pub mod WellFormedLaw
 pub mod RefusedLevels
 pub mod LowerableExamples
+pub mod GoodProgram

@@ -1,64 +1,41 @@
--- A program that may be lowered, by computation, and some that may not.
-use Rattle.std.specs.Prelude.{◌≡◌, true, false, List, [], ◌∷◌, None, String, codes}
-use Rattle.std.specs.declared.alloc.Global.{Global}
-use Rattle.std.specs.String.{string_bytes}
-use Rattle.hph_ast.specs.declared.expr.Expr.{out-roll-Expr}
-use Rattle.hph_ast.specs.declared.function.Function.{Function}
-use Rattle.hph_ast.specs.declared.stmt.Statement.{Statement}
-use Rattle.hph_ast.specs.declared.program.Program.{Program}
+-- What may not be lowered: each of these breaks one field of the condition.
+use Rattle.std.specs.Prelude.{◌≡◌, true, false, [], ◌∷◌, None, Some, codes}
+use Rattle.std.proofs.Common.{refl}
+use Rattle.hph_ast.specs.declared.class.Member.TheOpen.{Statement-F}
+use Rattle.hph_ast.specs.declared.stmt.Statement.{Statement, roll-Statement}
+use Rattle.hph_ast.specs.declared.refusal.Construct.TheVariants as c
+use Rattle.hph_ast.specs.ConstantExpressions.{is_constant}
+use Rattle.hph_ast.specs.RefusedExpressions.{a_text, a_directory_path}
 use Rattle.hph_ast.specs.RefusedStatements.{file_refused}
-use Rattle.hph_php.specs.Cost.{nodes, statement_nodes, program_nodes}
-use Rattle.hph_php.specs.Declarations.{declarations_in, codes_of, all_declarations, placed_at, a_body, a_function}
-use Rattle.hph_program.specs.Names.{wrong_arguments, wrong_arguments_of, expressions_in}
-use Rattle.hph_program.specs.Sources.{includes_in}
-use Rattle.hph_program.proofs.Trees.{trees, from_to, int, text, call, echo, returned, function, declared, file}
-use Rattle.hph_lowerable.specs.Facts.{tree_fits}
-use Rattle.hph_lowerable.specs.Lowerable.{includes_fit}
-use Rattle.hph_lowerable.proofs.StatementLevels.{statement_fits_rolled, function_fits_rolled}
-use Rattle.hph_lowerable.proofs.RefusedLevels.{fits_rolled, part_rolled, statement_rolled, function_rolled}
+use Rattle.hph_program.proofs.Trees.{trees, from_to, int, text, variable, call, set}
+use Rattle.hph_lowerable.specs.Facts.{expression_fits, constant_fits}
+use Rattle.hph_lowerable.specs.Lowerable.{names_file}
+use Rattle.hph_lowerable.proofs.ExpressionLevels.{facts_rolled}
+use Rattle.hph_lowerable.proofs.RefusedLevels.{fits_rolled, statement_rolled}
 
-module _ (path : String Global) where
-  -- ---- `echo f(); function f(){return 1;} function g(){return "b";}`
+-- the greatest int, and one more
+greatest_int : expression_fits (int 6 25 9223372036854775807) ≡ true
+greatest_int = simp (fits_rolled)
 
-  abbrev returns_1 : Function
-  returns_1 = function 16 39 25 (codes "f") [] (returned 29 38 (int 36 37 1) ∷ [])
+one_more : expression_fits (int 6 25 9223372036854775808) ≡ false
+one_more = simp (fits_rolled)
 
-  abbrev returns_b : Function
-  returns_b = function 40 65 49 (codes "g") [] (returned 53 64 (text 60 63 (codes "b")) ∷ [])
+-- `1 = 2`
+a_number_is_not_written : expression_fits (set 6 11 (int 6 7 1) (int 10 11 2)) ≡ false
+a_number_is_not_written = simp (fits_rolled, facts_rolled)
 
-  abbrev statements : List Statement
-  statements = echo 6 15 (call 11 14 (codes "f") [] ∷ []) ∷ declared returns_1 ∷ declared returns_b ∷ []
+-- `f()` as the value of a constant
+a_call_is_not_constant : constant_fits (call 6 9 (codes "f") []) ≡ false
+unfolding is_constant
+a_call_is_not_constant = simp trees
 
-  abbrev called_before : Program
-  called_before = record { files = file path 6 65 statements ∷ [] }
+-- `break;` outside of loops
+a_break_needs_a_loop : file_refused (record { at = from_to 6 12; statements = roll-Statement (Statement-F.Break (from_to 6 12) None) ∷ [] }) ≡ (c.BadBreak, 6) ∷ []
+a_break_needs_a_loop = simp (statement_rolled)
 
-  its_nodes : program_nodes called_before ≡ 9
-  unfolding nodes statement_nodes
-  its_nodes = simp trees
+-- an include in `lib/a.php` of a file that is there, and of one that isn't
+names_one : names_file (codes "m.php" ∷ codes "lib/b.php" ∷ []) (codes "lib") (a_text (codes "b.php")) ≡ true
+names_one = refl
 
-  its_facts : tree_fits (record { at = from_to 6 65; statements = statements }) ≡ true
-  its_facts = simp (statement_fits_rolled, function_fits_rolled, fits_rolled)
-
-  nothing_refused : file_refused (record { at = from_to 6 65; statements = statements }) ≡ []
-  nothing_refused = simp (statement_rolled, function_rolled, part_rolled, out-roll-Expr)
-
-  no_includes : includes_fit (string_bytes path ∷ []) (file path 6 65 statements) ≡ true
-  unfolding includes_in
-  no_includes = simp trees
-
-  its_codes : codes_of called_before ≡ record {
-    paths = string_bytes path ∷ [];
-    classes = [];
-    codes = placed_at 0 16 (a_body returns_1 None false) ∷ placed_at 0 40 (a_body returns_b None false) ∷ [];
-    statics = [];
-  }
-  unfolding declarations_in
-  its_codes = simp trees
-
-  its_declarations : all_declarations called_before ≡ (0, a_function returns_1) ∷ (0, a_function returns_b) ∷ []
-  unfolding declarations_in
-  its_declarations = simp trees
-
-  right_arguments : wrong_arguments_of called_before ≡ []
-  unfolding wrong_arguments expressions_in declarations_in
-  right_arguments = simp trees
+names_none : names_file (codes "m.php" ∷ codes "lib/b.php" ∷ []) (codes "lib") (a_directory_path (codes "/c.php")) ≡ false
+names_none = refl
