@@ -1,4 +1,5 @@
 pub mod Trees
+pub mod SiteLevels
 pub mod Runs
 pub mod FunctionExamples
 pub mod ClassExamples

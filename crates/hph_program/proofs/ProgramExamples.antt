@@ -9,89 +9,20 @@ use Rattle.hph_src.specs.Files.{Files, file_at}
 use Rattle.hph_ast.specs.declared.token.At.{At}
 use Rattle.hph_ast.specs.declared.operator.Binary.TheVariants as b
 use Rattle.hph_ast.specs.declared.expr.Expr.{Expr, roll-Expr}
-use Rattle.hph_ast.specs.declared.expr.ClassReference.{ClassReference}
-use Rattle.hph_ast.specs.declared.expr.Item.{Item}
-use Rattle.hph_ast.specs.declared.expr.MemberName.{MemberName}
-use Rattle.hph_ast.specs.declared.expr.Step.{Step}
-use Rattle.hph_ast.specs.declared.expr.StringPart.{StringPart}
 use Rattle.hph_ast.specs.declared.expr.ClassReference.TheOpen.{Expr-F}
-use Rattle.hph_ast.specs.declared.expr.ClassReference.TheFolds.{fold-ClassReference, fold-MemberName, fold-Step, fold-StringPart, fold-roll-Expr, map-Expr}
-use Rattle.hph_ast.specs.declared.stmt.Statement.{Statement, roll-Statement}
-use Rattle.hph_ast.specs.declared.stmt.Case.{Case}
-use Rattle.hph_ast.specs.declared.stmt.ElseIf.{ElseIf}
-use Rattle.hph_ast.specs.declared.function.Function.{Function}
-use Rattle.hph_ast.specs.declared.class.Class.{Class}
-use Rattle.hph_ast.specs.declared.class.Member.{Member}
+use Rattle.hph_ast.specs.declared.stmt.Statement.{roll-Statement}
 use Rattle.hph_ast.specs.declared.class.Member.TheOpen.{Statement-F}
-use Rattle.hph_ast.specs.declared.class.Member.TheFolds.{fold-Member, fold-Class, fold-Function, fold-Case, fold-ElseIf, fold-roll-Statement, map-Statement}
-use Rattle.hph_ast.specs.Layers.{ExprLayer}
 use Rattle.hph_ast.specs.declared.program.File.{File}
 use Rattle.hph_ast.specs.declared.program.FileTree.{FileTree}
 use Rattle.hph_ast.specs.declared.program.Program.{Program}
 use Rattle.hph_ast.specs.Tokens as tokens
 use Rattle.hph_ast.specs.Statements.{statements_end}
 use Rattle.hph_ast.specs.Statements as statements
-use Rattle.hph_program.specs.Sites.{Numbered, numbered_trees, numbered_files}
-use Rattle.hph_program.specs.Sites as sites
+use Rattle.hph_program.specs.Sites.{numbered_trees, numbered_files}
 use Rattle.hph_program.specs.Sources.{IsSource}
 use Rattle.hph_program.specs.Program.{last, wave, IsProgramOf}
+use Rattle.hph_program.proofs.SiteLevels.{statement_rolled, expression_rolled}
 use Rattle.hph_program.proofs.Trees.{from_to, int, run_of_two, echo, file}
-
--- ---- one level of numbering
-
-unfoldable pub class_reference : ClassReference → Numbered ClassReference
-class_reference = fold-ClassReference (Numbered ClassReference) (Numbered Expr) (Numbered Item) (Numbered MemberName) (Numbered Step) (Numbered StringPart)
-    sites.class_by sites.expression_by sites.item_by sites.member_name_by sites.step_by sites.part_by
-
-unfoldable pub member_name : MemberName → Numbered MemberName
-member_name = fold-MemberName (Numbered ClassReference) (Numbered Expr) (Numbered Item) (Numbered MemberName) (Numbered Step) (Numbered StringPart)
-    sites.class_by sites.expression_by sites.item_by sites.member_name_by sites.step_by sites.part_by
-
-unfoldable pub step : Step → Numbered Step
-step = fold-Step (Numbered ClassReference) (Numbered Expr) (Numbered Item) (Numbered MemberName) (Numbered Step) (Numbered StringPart)
-    sites.class_by sites.expression_by sites.item_by sites.member_name_by sites.step_by sites.part_by
-
-unfoldable pub part : StringPart → Numbered StringPart
-part = fold-StringPart (Numbered ClassReference) (Numbered Expr) (Numbered Item) (Numbered MemberName) (Numbered Step) (Numbered StringPart)
-    sites.class_by sites.expression_by sites.item_by sites.member_name_by sites.step_by sites.part_by
-
-pub expression_rolled : (d : ExprLayer) (n : ℕ) → sites.expression (roll-Expr d) n ≡ sites.expression_by
-    (map-Expr ClassReference Expr Item MemberName Step StringPart
-    (Numbered ClassReference) (Numbered Expr) (Numbered Item) (Numbered MemberName) (Numbered Step) (Numbered StringPart)
-    class_reference sites.expression sites.item member_name step part d) n
-unfolding sites.expression sites.item class_reference member_name step part
-expression_rolled d n = λ i. fold-roll-Expr
-    (Numbered ClassReference) (Numbered Expr) (Numbered Item) (Numbered MemberName) (Numbered Step) (Numbered StringPart)
-    sites.class_by sites.expression_by sites.item_by sites.member_name_by sites.step_by sites.part_by d i n
-
-unfoldable pub member : Member → Numbered Member
-member = fold-Member (Numbered Member) (Numbered Statement) (Numbered Class) (Numbered Function) (Numbered Case) (Numbered ElseIf)
-    sites.member_by sites.statement_by sites.class_declaration_by sites.function_by sites.case_by sites.else_if_by
-
-unfoldable pub class : Class → Numbered Class
-class = fold-Class (Numbered Member) (Numbered Statement) (Numbered Class) (Numbered Function) (Numbered Case) (Numbered ElseIf)
-    sites.member_by sites.statement_by sites.class_declaration_by sites.function_by sites.case_by sites.else_if_by
-
-unfoldable pub function : Function → Numbered Function
-function = fold-Function (Numbered Member) (Numbered Statement) (Numbered Class) (Numbered Function) (Numbered Case) (Numbered ElseIf)
-    sites.member_by sites.statement_by sites.class_declaration_by sites.function_by sites.case_by sites.else_if_by
-
-unfoldable pub case : Case → Numbered Case
-case = fold-Case (Numbered Member) (Numbered Statement) (Numbered Class) (Numbered Function) (Numbered Case) (Numbered ElseIf)
-    sites.member_by sites.statement_by sites.class_declaration_by sites.function_by sites.case_by sites.else_if_by
-
-unfoldable pub else_if : ElseIf → Numbered ElseIf
-else_if = fold-ElseIf (Numbered Member) (Numbered Statement) (Numbered Class) (Numbered Function) (Numbered Case) (Numbered ElseIf)
-    sites.member_by sites.statement_by sites.class_declaration_by sites.function_by sites.case_by sites.else_if_by
-
-pub statement_rolled : (d : Statement-F Member Statement Class Function Case ElseIf) (n : ℕ) → sites.statement (roll-Statement d) n ≡ sites.statement_by
-    (map-Statement Member Statement Class Function Case ElseIf
-    (Numbered Member) (Numbered Statement) (Numbered Class) (Numbered Function) (Numbered Case) (Numbered ElseIf)
-    member sites.statement class function case else_if d) n
-unfolding sites.statement member class function case else_if
-statement_rolled d n = λ i. fold-roll-Statement
-    (Numbered Member) (Numbered Statement) (Numbered Class) (Numbered Function) (Numbered Case) (Numbered ElseIf)
-    sites.member_by sites.statement_by sites.class_declaration_by sites.function_by sites.case_by sites.else_if_by d i n
 
 -- ---- sites: those of `<?php echo 1+2;` are the file, the statement, the sum and its numbers
 

@@ -47,7 +47,8 @@ use Rattle.hph_program.proofs.Trees.{trees, from_to}
 use Rattle.hph_program.proofs.Trees as tree
 use Rattle.hph_program.proofs.Runs.{AllDone, php_is, and_done, none_done}
 use Rattle.hph_program.proofs.Runs as means
-use Rattle.hph_program.proofs.ProgramExamples.{at_site, statement_rolled, expression_rolled}
+use Rattle.hph_program.proofs.SiteLevels.{statement_rolled, expression_rolled}
+use Rattle.hph_program.proofs.ProgramExamples.{at_site}
 
 -- ---- the file and its tree
 

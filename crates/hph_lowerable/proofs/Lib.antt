@@ -1,0 +1,16 @@
+pub mod Numbering
+pub mod StatementNumbering
+pub mod ExpressionFacts
+pub mod WholeExpressions
+pub mod StatementFacts
+pub mod Chains
+pub mod ExpressionLevels
+pub mod Written
+pub mod SpelledExpressions
+pub mod StatementLevels
+pub mod SpelledStatements
+pub mod IncludePaths
+pub mod WellFormedLaw
+pub mod RefusedLevels
+pub mod LowerableExamples
+pub mod GoodProgram
