@@ -73,9 +73,13 @@ the_receiver (a_value (Obj object)) = Some (an_object object)
 the_receiver (class_item class) = Some (a_class class)
 the_receiver _ = None
 
+-- of a method that is declared in a class
+abbrev pub opened_on : ℕ → ℕ → ℕ → ℕ → ℕ → List Argument → HostState → Replied
+opened_on k p m n decl args h = popped_as the_receiver h (λ receiver h. opened k p m n (Some decl) receiver args h)
+
 abbrev pub enter_m : ℕ → ℕ → ℕ → ℕ → ℕ → HostState → Replied
 enter_m k p m n decl h = sized k p m h (found (class_numbered decl h.core.heap) h (λ class.
-    popped_all the_argument n h (λ args h. popped_as the_receiver h (λ receiver h. opened k p m n (Some decl) receiver args h))))
+    popped_all the_argument n h (opened_on k p m n decl)))
 
 abbrev pub left : List HostFrame → HostState → Replied
 left [] h = misuse h

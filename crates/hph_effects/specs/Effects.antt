@@ -1,13 +1,14 @@
 -- What each row does: the host of `php1`.
 use Rattle.std.specs.Prelude.{ℕ, List, []}
+use Rattle.std.specs.Option.{option_map_or}
 use Rattle.hph_wasm.specs.declared.types.ValType.{ValType}
 use Rattle.hph_wasm.specs.Configuration.{Stops, Host}
 use Rattle.hph_php.specs.Answers.{Stop}
-use Rattle.hph_php.specs.Imports.{import_row, words, long}
+use Rattle.hph_php.specs.Imports.{Import, import_row, words, long}
 use Rattle.hph_effects.specs.declared.row.Row.{Row}
 use Rattle.hph_effects.specs.declared.row.Row.TheVariants as r
-use Rattle.hph_effects.specs.Hosts.{HostState, HostStatus, Serving, Halted, Replied, found, read_memory, on_one, on_two, on_four, on_five}
-use Rattle.hph_effects.specs.Rows.{row_with}
+use Rattle.hph_effects.specs.Hosts.{HostState, HostStatus, Serving, Halted, Replied, found, read_memory, on_none, on_one, on_two, on_four, on_five}
+use Rattle.hph_effects.specs.Rows.{row_with, row_import}
 use Rattle.hph_effects.specs.Values as values
 use Rattle.hph_effects.specs.Variables as variables
 use Rattle.hph_effects.specs.Paths as paths
@@ -39,7 +40,7 @@ params_of (of_five go) = words 5
 params_of (of_text go) = words 2
 
 abbrev pub applied : Effect → HostState → List ℕ → List ℕ → Replied
-applied (plain go) h args memory = go h
+applied (plain go) h args memory = on_none args h (go h)
 applied (of_one go) h args memory = on_one args h (λ n. go n h)
 applied (of_long go) h args memory = on_one args h (λ n. go n h)
 applied (of_two go) h args memory = on_two args h (λ m n. go m n h)
@@ -121,6 +122,10 @@ effect_of r.ConstGet = plain outputs.const_get
 effect_of r.Once = of_one outputs.once
 effect_of r.Exit = plain outputs.exit
 effect_of r.Fatal = of_one outputs.fatal
+
+-- what its type gives
+abbrev pub results_of : Row → List ValType
+results_of row = option_map_or (λ (i : Import). i.type.results) (row_import row) []
 
 abbrev pub call_row : Row → HostState → List ℕ → List ℕ → Replied
 call_row row h args memory = applied (effect_of row) h args memory

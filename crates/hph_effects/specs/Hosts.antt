@@ -212,6 +212,10 @@ popped_all sort n h go =
 
 -- ---- arguments of a call
 
+abbrev pub on_none : List ℕ → HostState → Replied → Replied
+on_none [] h go = go
+on_none _ h go = misuse h
+
 abbrev pub on_one : List ℕ → HostState → (ℕ → Replied) → Replied
 on_one (n ∷ []) h go = go n
 on_one _ h go = misuse h

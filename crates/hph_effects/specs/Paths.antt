@@ -4,6 +4,7 @@ use Rattle.std.specs.Prelude.{ℕ, zero, suc, Bool, true, false, ◌||◌, List,
 use Rattle.std.specs.Option.{option_map_or}
 use Rattle.hph_php.specs.declared.fatal.Fatal.{Fatal}
 use Rattle.hph_php.specs.declared.fatal.Fatal.TheVariants.{BadArgument}
+use Rattle.hph_php.specs.declared.operator.BinOp.{BinOp}
 use Rattle.hph_php.specs.Builtins.{is_object}
 use Rattle.hph_php.specs.Codes.{binary_with}
 use Rattle.hph_php.specs.Values.{Value}
@@ -34,9 +35,9 @@ base_value places (a_value v) = Some (Some v)
 base_value places _ = None
 
 -- a path of so many steps, with what is at its base
-abbrev pub walked : ℕ → HostState → (Walk → Option Value → HostState → Replied) → Replied
+abbrev pub walked : ℕ → HostState → (Item → List PathStep → Option Value → HostState → Replied) → Replied
 walked d h go = found (walk_onto [] d h.stack) h (λ w.
-    found (base_value h.core.places w.base) h (λ place. go w place (with_stack w.below h)))
+    found (base_value h.core.places w.base) h (λ place. go w.base w.steps place (with_stack w.below h)))
 
 -- ---- paths that are written
 
@@ -64,21 +65,29 @@ written base w core = on_heap (with_objects w.objects) core
 abbrev pub stored : Item → Result Stored Fatal → HostState → Replied
 stored base r h = on_ok r h (λ s. done (push s.0 (with_core (written base s.1) h)))
 
-abbrev pub walked_for : (Item → List PathStep → Bool) → ℕ → HostState → (Walk → Option Value → HostState → Replied) → Replied
-walked_for fits d h go = walked d h (λ w place below. only_if (fits w.base w.steps) h (go w place below))
+abbrev pub walked_for : (Item → List PathStep → Bool) → ℕ → HostState →
+    (Item → List PathStep → Option Value → HostState → Replied) → Replied
+walked_for fits d h go = walked d h (λ base steps place below. only_if (fits base steps) h (go base steps place below))
 
--- ---- rows
+-- ---- rows, each with what it does behind the walk
+
+abbrev pub got : Item → List PathStep → Option Value → HostState → Replied
+got base steps place h = in_class h (λ class. settled (read_path h.core.heap class (old_value place) steps) h)
 
 abbrev pub path_get : ℕ → HostState → Replied
-path_get d h = walked d h (λ w place h. in_class h (λ class. settled (read_path h.core.heap class (old_value place) w.steps) h))
+path_get d h = walked d h got
+
+abbrev pub assigned : Value → Item → List PathStep → Option Value → HostState → Replied
+assigned v base steps place h = in_class h (λ class. stored base (assign_at class steps v h.core.heap place) h)
 
 abbrev pub path_set : ℕ → HostState → Replied
-path_set d h = popped h (λ v h. walked_for is_writable d h (λ w place h.
-    in_class h (λ class. stored w.base (assign_at class w.steps v h.core.heap place) h)))
+path_set d h = popped h (λ v h. walked_for is_writable d h (assigned v))
+
+abbrev pub operated : BinOp → Value → Item → List PathStep → Option Value → HostState → Replied
+operated op v base steps place h = in_class h (λ class. stored base (operate_at class (binary_of op) steps v h.core.heap place) h)
 
 abbrev pub path_op : ℕ → ℕ → HostState → Replied
-path_op d code h = found (binary_with code) h (λ op. popped h (λ v h. walked_for is_writable d h (λ w place h.
-    in_class h (λ class. stored w.base (operate_at class (binary_of op) w.steps v h.core.heap place) h))))
+path_op d code h = found (binary_with code) h (λ op. popped h (λ v h. walked_for is_writable d h (operated op v)))
 
 -- how `++` and `--` move a value, and which of the old and the new one they give
 pub record Move : Type 0 where
@@ -92,41 +101,56 @@ moves =
     ∷ record { move = incremented; which = λ old new. old }
     ∷ record { move = decremented; which = λ old new. old } ∷ []
 
-abbrev pub path_inc : ℕ → ℕ → HostState → Replied
-path_inc d mode h = found (slice_get moves mode) h (λ (m : Move). walked_for is_writable d h (λ w place h.
-    in_class h (λ class. stored w.base (update_at class m.move m.which w.steps h.core.heap place) h)))
+abbrev pub updated : Move → Item → List PathStep → Option Value → HostState → Replied
+updated m base steps place h = in_class h (λ class. stored base (update_at class m.move m.which steps h.core.heap place) h)
 
-abbrev pub tried : Walk → Option Value → HostState → Option ℕ → Option Value
-tried w place h class = option_map_or (λ v. try_path h.core.heap class v w.steps) place None
+abbrev pub path_inc : ℕ → ℕ → HostState → Replied
+path_inc d mode h = found (slice_get moves mode) h (λ m. walked_for is_writable d h (updated m))
+
+-- the value, if it is set
+abbrev pub tried : List PathStep → Option Value → HostState → Option ℕ → Option Value
+tried steps place h class = option_map_or (λ v. try_path h.core.heap class v steps) place None
 
 -- the value and 1, or 0
 abbrev pub if_set : Option Value → HostState → HostState → Replied
 if_set None otherwise below = gives 0 otherwise
 if_set (Some v) otherwise below = gives 1 (push v below)
 
-abbrev pub path_try : ℕ → HostState → Replied
-path_try d h = walked d h (λ w place below. in_class h (λ class. if_set (tried w place h class) below below))
+-- at 0 a host is left as it was before
+abbrev pub tested : HostState → Item → List PathStep → Option Value → HostState → Replied
+tested otherwise base steps place h = in_class h (λ class. if_set (tried steps place h class) otherwise h)
 
--- at 0 the stack stays
 abbrev pub path_keep : ℕ → HostState → Replied
-path_keep d h = walked d h (λ w place below. in_class h (λ class. if_set (tried w place h class) h below))
+path_keep d h = walked d h (tested h)
+
+-- at 0 the path is gone too
+abbrev pub path_try : ℕ → HostState → Replied
+path_try d h = walked d h (λ base steps place h. tested h base steps place h)
+
+abbrev pub unset : Item → List PathStep → Option Value → HostState → Replied
+unset base steps place h = in_class h (λ class.
+    on_ok (unset_path h.core.heap class steps place) h (λ r. done (with_core (written base r) h)))
 
 abbrev pub path_unset : ℕ → HostState → Replied
-path_unset d h = walked_for is_writable d h (λ w place h. in_class h (λ class.
-    on_ok (unset_path h.core.heap class w.steps place) h (λ r. done (with_core (written w.base r) h))))
+path_unset d h = walked_for is_writable d h unset
 
 -- a value without steps holds no array that could be changed
 abbrev pub is_mere_value : Item → List PathStep → Bool
 is_mere_value (a_value v) [] = true
 is_mere_value base steps = false
 
-abbrev pub change_array : (Array Value → Result (Array Value × Value) Fatal) → ℕ → HostState → Replied
-change_array go d h = walked_for (λ base steps. is_mere_value base steps || is_writable base steps) d h (λ w place h.
-    if is_mere_value w.base w.steps then fails BadArgument h
-    else in_class h (λ class. stored w.base (change_array_at class go w.steps h.core.heap place) h))
+abbrev pub is_changeable : Item → List PathStep → Bool
+is_changeable base steps = is_mere_value base steps || is_writable base steps
+
+abbrev pub changed : (Array Value → Result (Array Value × Value) Fatal) → Item → List PathStep → Option Value → HostState → Replied
+changed go base steps place h = if is_mere_value base steps then fails BadArgument h
+    else in_class h (λ class. stored base (change_array_at class go steps h.core.heap place) h)
+
+abbrev pub change_array : ℕ → (Array Value → Result (Array Value × Value) Fatal) → HostState → Replied
+change_array d go h = walked_for is_changeable d h (changed go)
 
 abbrev pub path_push : ℕ → ℕ → HostState → Replied
-path_push d n h = popped_all the_value n h (λ vs h. change_array (pushed vs) d h)
+path_push d n h = popped_all the_value n h (λ vs h. change_array d (pushed vs) h)
 
 abbrev pub path_pop : ℕ → HostState → Replied
-path_pop d h = change_array without_last d h
+path_pop d h = change_array d without_last h
