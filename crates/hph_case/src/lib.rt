@@ -5,13 +5,6 @@
 //! back are inverse to each other. No call takes memory.
 #![tactic(auto)]
 
-/// A table, written as lines `code => tag`.
-macro_rules! cases {
-    ($($code:literal => $tag:literal,)*) => {
-        Cases { rows: [$(Row { code: $code, tag: $tag },)*] }
-    };
-}
-
 mod builtin_table;
 mod cases;
 mod fatal_table;

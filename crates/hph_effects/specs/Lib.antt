@@ -1,0 +1,12 @@
+pub mod Rows
+pub mod Hosts
+pub mod Slots
+pub mod Values
+pub mod Variables
+pub mod Paths
+pub mod Holds
+pub mod Outputs
+pub mod Calls
+pub mod Declarations
+pub mod Classes
+pub mod Effects
