@@ -53,3 +53,7 @@ pub mod OneWay
 pub mod EmptyLabels
 pub mod Obstacles
 pub mod Printed
+pub mod Ends
+pub mod BothSteps
+pub mod NoRule
+pub mod EndingExamples

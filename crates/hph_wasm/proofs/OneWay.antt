@@ -22,7 +22,7 @@ module _ {H E : Type 0} (host : Host H E) (m : Module) where
   -- The same of a frame.
   frame_or_inside : (s s1 s2 : Store H) (locals l1 inner inner' values : List Value) (n : ℕ) (body after rest becomes : Sequence) →
       Acts host m s locals values (Framed n inner body) rest s1 l1 becomes → Rewrites host m s inner body s2 inner' after → ⊥
-  frame_or_inside s s1 s2 locals l1 inner inner' values n body after rest becomes (_, _, inl (given, same, _)) r =
+  frame_or_inside s s1 s2 locals l1 inner inner' values n body after rest becomes (_, _, inl (given, _, same, _)) r =
       stack_not_rewritten host m s s2 inner inner' given body after (view host m s s2 inner inner' body after r) same
   frame_or_inside s s1 s2 locals l1 inner inner' values n body after rest becomes (_, _, inr (i, k, top, leaves, long, stands, _)) r =
       not_rewritten host m top i k body stands (leaves_all i k leaves) s s2 inner inner' after r

@@ -54,13 +54,13 @@ module _ (m : Module) {H E : Type 0} (host : Host H E) where
   within (frame ∷ frames) code code' labels labels' goes (stands, frames_stand) = (goes frame.function stands, frames_stand)
 
   -- The callers of what stands in its frames.
-  frames_of : (frames : List Frame) (code : List Instr) (labels : List Label) → StandsIn m frames code labels → FramesStand m frames
+  pub frames_of : (frames : List Frame) (code : List Instr) (labels : List Label) → StandsIn m frames code labels → FramesStand m frames
   frames_of [] code labels stands = tt
   frames_of (frame ∷ frames) code labels (stands, frames_stand) = frames_stand
 
   -- What stands in its frames stands behind a call.
   behind : (frames : List Frame) (code : List Instr) (labels : List Label) → StandsIn m frames code labels → StandsBehind m frames code labels
-  behind [] code labels stands = tt
+  behind [] code labels stands = absurd stands
   behind (frame ∷ frames) code labels stands = stands
 
   -- The end of a block leads behind it.
@@ -129,8 +129,8 @@ module _ (m : Module) {H E : Type 0} (host : Host H E) where
             within at.frames (i ∷ rest) _ at.labels at.labels (λ f. onto_branch m f i k rest at.labels one) stands;
         calls = λ f values. behind at.frames rest at.labels past;
         enters = λ label inside entry. entered_placed i rest label inside at entry stands;
-        branches = λ k values. branch_step_placed k values (i ∷ rest) at.labels at stuck tt stands;
-        returns = λ values. return_step_placed values at.frames at.store stuck tt (frames_of at.frames (i ∷ rest) at.labels stands);
+        branches = λ k values _. branch_step_placed k values (i ∷ rest) at.labels at stuck tt stands;
+        returns = λ values _. return_step_placed values at.frames at.store stuck tt (frames_of at.frames (i ∷ rest) at.labels stands);
       })
 
   -- Behind a call the caller goes on.
@@ -150,7 +150,7 @@ module _ (m : Module) {H E : Type 0} (host : Host H E) where
 
   -- A call's frame keeps what its caller goes on with.
   entered_frames : (frames : List Frame) (frame : Frame) → StandsBehind m frames frame.rest frame.labels → FramesStand m (frame ∷ frames)
-  entered_frames [] frame stands = tt
+  entered_frames [] frame stands = stands
   entered_frames (caller ∷ frames) frame stands = stands
 
   -- A function is entered at the first opcode of its body.
@@ -186,7 +186,7 @@ module _ (m : Module) {H E : Type 0} (host : Host H E) where
 
   -- From the start of the run.
   pub runs_stand : RunsStand host m
-  runs_stand state main n = reduce_placed n (start state m main) tt
+  runs_stand state main n = reduce_placed n (start state m main) (refl, refl)
 
   pub traps_at_opcodes : TrapsAreAtOpcodes host m
   traps_at_opcodes state main n code at reached = subst Placed reached (runs_stand state main n)

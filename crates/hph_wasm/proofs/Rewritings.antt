@@ -33,7 +33,7 @@ module _ {H E : Type 0} (host : Host H E) (m : Module) where
       goes
 
   -- A call passes a value for each parameter, of its type.
-  passed-types : (ty : FuncType) (values : List Value) (call : Arguments) → arguments ty.params values ≡ Some call →
+  pub passed-types : (ty : FuncType) (values : List Value) (call : Arguments) → arguments ty.params values ≡ Some call →
       types call.passed ≡ ty.params
   passed-types ty values call taken = arguments_onto-types [] (reverse ty.params) values call taken ∙ reverse-reverse ty.params
 

@@ -38,7 +38,7 @@ not_beyond i k (branches n _ more) same = let number : n ≡ k = cc in omega (ar
 not_beyond i k (returns _) same = cc
 
 -- What stands in labels has a front.
-in_labels_no_stack : (top given : List Value) (i : Instr) (k : ℕ) (body : Sequence) → InLabels (on_stack top (Plain i)) k body → body ≡ stack given → ⊥
+pub in_labels_no_stack : (top given : List Value) (i : Instr) (k : ℕ) (body : Sequence) → InLabels (on_stack top (Plain i)) k body → body ≡ stack given → ⊥
 in_labels_no_stack top given i k _ (inside.here values rest) same =
     no_front given (top ++ values) (Plain i) rest tt (sym same ∙ on_top top values (Plain i) rest)
 in_labels_no_stack top given i k _ (inside.in_one values arity continuation rest j body stands) same =
@@ -220,11 +220,11 @@ module _ {H E : Type 0} (host : Host H E) (m : Module) where
     is ∙ ap (λ top. join (stack values) (join (join (stack top) (plain continuation)) rest))
         (tops_same n k k' top top' (Br k) (Br k') body long long' stands stands') ∙ sym is',
   )
-  acts_same (Framed n inner body) s s1 s2 locals l1 l2 values rest b1 b2 (st, lo, inl (given, same, is)) (st', lo', inl (given', same', is')) =
+  acts_same (Framed n inner body) s s1 s2 locals l1 l2 values rest b1 b2 (st, lo, inl (given, _, same, is)) (st', lo', inl (given', _, same', is')) =
       (st ∙ sym st', lo ∙ sym lo', is ∙ ap (λ b. join (stack values) (join b rest)) (sym same ∙ same') ∙ sym is')
-  acts_same (Framed n inner body) s s1 s2 locals l1 l2 values rest b1 b2 (st, lo, inl (given, same, is)) (st', lo', inr (i, k, top, leaves, long, stands, is')) =
+  acts_same (Framed n inner body) s s1 s2 locals l1 l2 values rest b1 b2 (st, lo, inl (given, _, same, is)) (st', lo', inr (i, k, top, leaves, long, stands, is')) =
       absurd (in_labels_no_stack top given i k body stands same)
-  acts_same (Framed n inner body) s s1 s2 locals l1 l2 values rest b1 b2 (st, lo, inr (i, k, top, leaves, long, stands, is)) (st', lo', inl (given, same, is')) =
+  acts_same (Framed n inner body) s s1 s2 locals l1 l2 values rest b1 b2 (st, lo, inr (i, k, top, leaves, long, stands, is)) (st', lo', inl (given, _, same, is')) =
       absurd (in_labels_no_stack top given i k body stands same)
   acts_same (Framed n inner body) s s1 s2 locals l1 l2 values rest b1 b2 (st, lo, inr (i, k, top, leaves, long, stands, is)) (st', lo', inr (i', k', top', leaves', long', stands', is')) = (
     st ∙ sym st',

@@ -46,7 +46,7 @@ module _ {H E : Type 0} (host : Host H E) (m : Module) where
       ((k : ℕ) × (top : List Value) × (n ≡ length top) × InLabels (on_stack top (Plain (Br k))) k body ×
       (becomes ≡ join (stack values) (join (join (stack top) (plain continuation)) rest))))
   Acts s locals values (Framed n inner body) rest s' locals' becomes = (s' ≡ s) × (locals' ≡ locals) × (
-      ((given : List Value) × (body ≡ stack given) × (becomes ≡ join (stack values) (join (stack given) rest))) ⊎
+      ((given : List Value) × (n ≡ length given) × (body ≡ stack given) × (becomes ≡ join (stack values) (join (stack given) rest))) ⊎
       ((i : Instr) × (k : ℕ) × (top : List Value) × Leaves i k × (n ≡ length top) × InLabels (on_stack top (Plain i)) k body ×
       (becomes ≡ join (stack values) (join (stack top) rest))))
 
@@ -119,7 +119,7 @@ module _ {H E : Type 0} (host : Host H E) (m : Module) where
   rule_seen _ _ _ _ _ _ values rest (return_out s locals arity inner body k top same stands) =
       record { values = values; first = _; rest = rest; front = tt; split = refl; acts = (refl, refl, inr (Return, k, top, by_return k, same, stands, refl)) }
   rule_seen _ _ _ _ _ _ values rest (frame_end s locals arity inner given same) =
-      record { values = values; first = _; rest = rest; front = tt; split = refl; acts = (refl, refl, inl (given, refl, refl)) }
+      record { values = values; first = _; rest = rest; front = tt; split = refl; acts = (refl, refl, inl (given, same, refl, refl)) }
   rule_seen _ _ _ _ _ _ values rest (invoke_function s locals f func ty passed there known long) = record {
     values = reverse passed ++ values;
     first = Invoke f;

@@ -112,8 +112,8 @@ module _ {H E : Type 0} (host : Host H E) (m : Module) where
           jumps = λ k values one. same;
           calls = λ f values. same;
           enters = λ label inside entry. same;
-          branches = λ k values. branch_step_shows k values at.labels at (Stuck (i ∷ rest) at) same;
-          returns = λ values. return_step_shows values at.frames at.store (Stuck (i ∷ rest) at) same;
+          branches = λ k values _. branch_step_shows k values at.labels at (Stuck (i ∷ rest) at) same;
+          returns = λ values _. return_step_shows values at.frames at.store (Stuck (i ∷ rest) at) same;
         })
 
     -- The call of an import shows the host's output.

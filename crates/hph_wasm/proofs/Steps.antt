@@ -119,8 +119,8 @@ module _ {H E : Type 0} (host : Host H E) (m : Module) (P : Configuration H E �
     -- It is entered.
     pub enters : (label : Label) (inside : List Instr) → Entry i rest label inside → P (block_entry host m label inside at)
     -- It leaves labels, or its function.
-    pub branches : (k : ℕ) (values : List Value) → P (branch_step host m k values at.labels at stuck)
-    pub returns : (values : List Value) → P (return_step host m values at.frames at.store stuck)
+    pub branches : (k : ℕ) (values : List Value) → i ≡ Br k → P (branch_step host m k values at.labels at stuck)
+    pub returns : (values : List Value) → i ≡ Return → P (return_step host m values at.frames at.store stuck)
 
   module _ (i : Instr) (kept : Kept i) where
     -- It goes on with other values.
@@ -159,12 +159,12 @@ module _ {H E : Type 0} (host : Host H E) (m : Module) (P : Configuration H E �
   instr_step-kept (If' ty shape body other) values kept = popped-cases P I32 values stuck _ on_stuck (λ n below _.
       if_zero-cases P n _ _ (λ _. kept.enters _ _ (else_at ty shape body other rest below))
       (λ _ _. kept.enters _ _ (then_at ty shape body other rest below)))
-  instr_step-kept (Br k) values kept = kept.branches k values
+  instr_step-kept (Br k) values kept = kept.branches k values refl
   instr_step-kept (BrIf k) values kept = popped-cases P I32 values stuck _ on_stuck (λ n below _.
       if_zero-cases P n _ _ (λ _. on (BrIf k) kept below) (λ _ _. kept.jumps k below refl))
   instr_step-kept (BrTable ks k) values kept = popped-cases P I32 values stuck _ on_stuck (λ n below _.
       kept.jumps (slice_index_or ks n k) below refl)
-  instr_step-kept Return values kept = kept.returns values
+  instr_step-kept Return values kept = kept.returns values refl
   instr_step-kept (Call f) values kept = kept.calls f values
   instr_step-kept (CallIndirect number) values kept = popped-cases P I32 values stuck _ on_stuck (λ n below _.
       entry_call-kept (CallIndirect number) kept tt (slice_get (table_of m) n) number below)

@@ -30,6 +30,7 @@ pub mod Standing
 pub mod Sequences
 pub mod PlainRules
 pub mod Rewriting
+pub mod Ending
 pub mod Fitting
 pub mod Safety
 pub mod HostAnswers

@@ -8,7 +8,7 @@ use Rattle.hph_wasm.specs.Functions.{Defined, functions}
 use Rattle.hph_wasm.specs.Outcome.{End, Trap}
 use Rattle.hph_wasm.specs.Configuration.{Host, Label, Frame, Configuration, Setting, Running, Calling, Trapped, Stuck, Ended}
 use Rattle.hph_wasm.specs.Place.{trap_at}
-use Rattle.hph_wasm.specs.Reduction.{step, reduce}
+use Rattle.hph_wasm.specs.Reduction.{reduce}
 use Rattle.hph_wasm.specs.Run.{start}
 use Rattle.hph_wasm.specs.Opcodes.{Opcode, EndOfCode, opcodes}
 
@@ -45,10 +45,10 @@ module _ (m : Module) where
     pub shows : IsShown code shown
     pub outside : Outside (opcodes func.body ++ EndOfCode ∷ []) labels tail
 
-  -- Each caller goes on with what is left of it.
+  -- Each caller goes on with what is left of it, and behind the outermost function there is nothing.
   abbrev pub FramesStand : List Frame → Type 0
   FramesStand [] = Unit {0}
-  FramesStand (frame ∷ []) = Unit {0}
+  FramesStand (frame ∷ []) = (frame.rest ≡ []) × (frame.labels ≡ [])
   FramesStand (frame ∷ caller ∷ frames) = Stands caller.function frame.rest frame.labels × FramesStand (caller ∷ frames)
 
   -- The function that runs is the innermost frame's.
@@ -58,7 +58,7 @@ module _ (m : Module) where
 
   -- Behind a call; outside all frames nothing comes behind.
   abbrev pub StandsBehind : List Frame → List Instr → List Label → Type 0
-  StandsBehind [] code labels = Unit {0}
+  StandsBehind [] code labels = (code ≡ []) × (labels ≡ [])
   StandsBehind (frame ∷ frames) code labels = Stands frame.function code labels × FramesStand (frame ∷ frames)
 
   -- A configuration whose instructions are what is left of their functions; one that has trapped did so at its opcode.

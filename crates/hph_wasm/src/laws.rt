@@ -14,6 +14,7 @@ ghost use Rattle.hph_wasm.specs.ModuleValidity.{IsValid};
 ghost use Rattle.hph_wasm.specs.Faults.{HasOneFault, HasOneFirst};
 ghost use Rattle.hph_wasm.specs.Agrees.{IsRun, Follows, Agrees};
 ghost use Rattle.hph_wasm.specs.Rewriting.{StepsAreRewritings, TrapsAreByRule, RewritesOneWay};
+ghost use Rattle.hph_wasm.specs.Ending.{EndsLeaveValues, StopsAreReplies, StuckIsFinal};
 ghost use Rattle.hph_wasm.specs.HostAnswers.{ResultsFit, PutsArePrinted};
 ghost use Rattle.hph_wasm.specs.Php1.{php1, PhpStop};
 
@@ -119,6 +120,18 @@ pub fn steps_are_rewritings<H: AnyHost>()
 /// At most one rule applies, in one place of what is rewritten.
 pub fn one_rule_applies<H: AnyHost>()
     ensures { (host : Host H.State H.Stop) (m : Module) → RewritesOneWay host m }
+{}
+
+/// Where a run is over as main's end has it, one rewriting leads to values alone; and it ends otherwise only by a call of an
+/// import that the host doesn't go on from (4.4.7).
+pub fn ends_are_by_rule<H: AnyHost>()
+    ensures left { (host : Host H.State H.Stop) (m : Module) → EndsLeaveValues host m }
+    ensures stopped { (host : Host H.State H.Stop) (m : Module) → StopsAreReplies host m }
+{}
+
+/// Where a run is stuck, no rule rewrites what it is to the standard, and the instruction that is next traps by none.
+pub fn stuck_runs_have_no_rule<H: AnyHost>()
+    ensures { (host : Host H.State H.Stop) (m : Module) → StuckIsFinal host m }
 {}
 
 /// Wherever a run is, the instructions that are left of each of its functions are the end of that function's body, and a branch to
