@@ -14,3 +14,5 @@ pub mod WellFormedLaw
 pub mod RefusedLevels
 pub mod LowerableExamples
 pub mod GoodProgram
+pub mod SourceInts
+pub mod SourceLaw
