@@ -16,3 +16,4 @@ pub mod LowerableExamples
 pub mod GoodProgram
 pub mod SourceInts
 pub mod SourceLaw
+pub mod SourceTokens

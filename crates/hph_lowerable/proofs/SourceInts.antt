@@ -1,6 +1,6 @@
 -- The numbers that a file's bytes spell are ints of 64 bits.
-use Rattle.std.specs.Prelude.{◌≡◌, ℕ, suc, ◌+◌, ◌-◌, ◌^◌, ◌<◌, Bool, true, false, ◌&&◌, ◌||◌, not, ◌==◌, List, [], ◌∷◌, ◌++◌, length, drop, Option, None, Some, Result, Ok, Err, if◌then◌else◌, codes}
-use Rattle.std.proofs.Common.{arith, refl, ap, sym, ◌∙◌, subst}
+use Rattle.std.specs.Prelude.{◌≡◌, ℕ, suc, ◌-◌, ◌^◌, Bool, true, false, ◌&&◌, ◌||◌, not, ◌==◌, List, [], ◌∷◌, length, drop, Option, None, Some, Result, Ok, Err, if◌then◌else◌, codes}
+use Rattle.std.proofs.Common.{arith, refl, subst}
 use Rattle.std.proofs.lemmas.List.Elements.{All-from_recursion, All-append, All-nil}
 use Rattle.std.proofs.lemmas.Bool.Decides.{Decides-ltb}
 use Rattle.hph_ast.specs.declared.token.Token.{Token}
@@ -97,7 +97,7 @@ keyed : (bs : List ℕ) → SmallKey (key_of bs)
 keyed bs = if_key (begins_with is_letter bs) (λ _. a_key tt)
     (if_key (begins (codes "$") bs && begins_with is_letter (drop 1 bs)) (λ _. a_key tt)
     (if_key (begins_with is_digit bs && is_plain_number (front is_digit bs)) (λ is. a_key ((Decides-ltb (value_of 10 (front is_digit bs)) (2 ^ 63)).0
-      (last_true (length (front is_digit bs) == 1 || not (begins (codes "0") (front is_digit bs))) _ (last_true (begins_with is_digit bs) _ is)))) no_key))
+    (last_true (length (front is_digit bs) == 1 || not (begins (codes "0") (front is_digit bs))) _ (last_true (begins_with is_digit bs) _ is)))) no_key))
 
 key_in : {found : Kind × ℕ} → SmallKey (Some found) → IsIntOfPrograms found.0
 key_in (a_key int) = int

@@ -1,5 +1,5 @@
 -- A program of a source tree is well-formed, where its names agree, its places are apart and its tokens are few.
-use Rattle.std.specs.Prelude.{◌≡◌, ◌≤◌, ◌+◌, ℕ, suc, Bool, true, false, List, [], ◌∷◌, ◌++◌, length, map, flat_map, filter_map, fold, All, bytes_eq}
+use Rattle.std.specs.Prelude.{◌≡◌, ◌≤◌, ◌+◌, ℕ, suc, List, [], ◌∷◌, ◌++◌, length, map, flat_map, filter_map, fold, All, bytes_eq}
 use Rattle.std.specs.List.{AllZip, AllByRecursion, list_any}
 use Rattle.std.proofs.Common.{arith, refl, ap, sym, ◌∙◌, subst, length-append}
 use Rattle.std.proofs.lemmas.List.Elements.{All-from_recursion}
@@ -7,22 +7,22 @@ use Rattle.hph_src.specs.Files.{Files}
 use Rattle.hph_ast.specs.declared.token.Token.{Token}
 use Rattle.hph_ast.specs.declared.program.File.{File}
 use Rattle.hph_ast.specs.declared.stmt.Statement.{Statement}
-use Rattle.hph_ast.specs.declared.program.FileTree.{FileTree}
-use Rattle.hph_ast.specs.declared.program.Program.{Program}
-use Rattle.hph_ast.specs.RefusedExpressions.{Shape}
 use Rattle.hph_php.specs.Declarations.{path_of}
 use Rattle.hph_php.specs.Includes.{normalised, folder}
 use Rattle.hph_program.specs.Sites.{Numbered, each, statement, file_tree, numbered_trees, numbered_files}
 use Rattle.hph_program.specs.Sites as sites
 use Rattle.hph_program.specs.Sources.{IsSource, path_named, includes_in, included}
-use Rattle.hph_program.specs.Program.{Waves, last, wave, IsProgramOf}
-use Rattle.hph_program.specs.WellFormed.{IsWellFormed, IsSpelled, IncludeEachOther, held_bytes}
+use Rattle.hph_program.specs.Program.{Waves, last, wave}
+use Rattle.hph_program.specs.WellFormed.{IsSpelled, IncludeEachOther, held_bytes}
 use Rattle.hph_program.proofs.Closed.{waves_are_closed}
 use Rattle.hph_lowerable.specs.Laws.{SourcesAreWellFormed}
 use Rattle.hph_lowerable.proofs.Numbering.{Kept, each_kept}
 use Rattle.hph_lowerable.proofs.StatementFacts.{statement_includes_kept}
 use Rattle.hph_lowerable.proofs.Chains.{AreInts}
 use Rattle.hph_lowerable.proofs.SourceInts.{tokens_are_ints}
+use Rattle.hph_lowerable.proofs.SourceTokens.{tokens_are_few}
+use Rattle.hph_lowerable.proofs.WellFormedLaw.{sum_is}
+use Rattle.hph_php.specs.Cost.{total_of}
 
 -- ---- files that are sources
 
@@ -69,6 +69,25 @@ ints files fs a = All-from_recursion AreInts (map (λ (f : File). f.tokens) fs) 
     by_files [] a = tt
     by_files (f ∷ fs) a = (tokens_are_ints f.bytes f.tokens a.0.1.reads.spells, by_files fs a.1)
 
+-- tokens are no more than bytes, and hold no more
+few_tokens : (files : Files) (n : ℕ) (fs : List File) → AreSources files fs →
+    fold (λ n (f : File). n + length f.tokens) n fs ≤ n + total_of (λ (f : File). length f.bytes) fs
+few_tokens files n [] a = omega arith
+few_tokens files n (f ∷ fs) a = omega (arith, (tokens_are_few f.bytes f.tokens a.0.1.reads.spells).0, few_tokens files (n + length f.tokens) fs a.1)
+
+abbrev held_in : List Token → ℕ
+held_in ts = fold (λ n (t : Token). n + held_bytes t.kind) 0 ts
+
+few_held : (files : Files) (n : ℕ) (fs : List File) → AreSources files fs →
+    fold (λ n (f : File). n + held_in f.tokens) n fs ≤ n + total_of (λ (f : File). length f.bytes) fs
+few_held files n [] a = omega arith
+few_held files n (f ∷ fs) a = omega (
+  arith,
+  (tokens_are_few f.bytes f.tokens a.0.1.reads.spells).1,
+  sum_is (λ (t : Token). held_bytes t.kind) 0 f.tokens,
+  few_held files (n + held_in f.tokens) fs a.1,
+)
+
 sums : (f : List Token → ℕ) (n : ℕ) (fs : List File) →
     fold (λ n ts. n + f ts) n (map (λ (g : File). g.tokens) fs) ≡ fold (λ n (g : File). n + f g.tokens) n fs
 sums f n [] = refl
@@ -108,14 +127,26 @@ as_many fs = by_number fs 0
 -- ---- the law
 
 pub sources_are_well_formed : SourcesAreWellFormed
-sources_are_well_formed files main p source few places names = record {
+sources_are_well_formed files main p source places names = record {
   main = omega (arith, ap length source.numbered, as_many source.sources, some_file files (normalised main) source.sources source.waves);
   few = omega (arith, ap length source.numbered, as_many source.sources, source.limits.few);
   tokens = map (λ (f : File). f.tokens) source.sources;
   trees = map (λ (f : File). f.tree) source.sources;
   spelled = spelled files source.sources sources;
-  few_tokens = omega (arith, sums (λ ts. length ts) 0 source.sources, few.few);
-  few_bytes = omega (arith, sums (λ ts. fold (λ n (t : Token). n + held_bytes t.kind) 0 ts) 0 source.sources, few.few_bytes);
+  few_tokens = omega (
+    arith,
+    sums (λ ts. length ts) 0 source.sources,
+    few_tokens files 0 source.sources sources,
+    sum_is (λ (f : File). length f.bytes) 0 source.sources,
+    source.limits.short_together,
+  );
+  few_bytes = omega (
+    arith,
+    sums held_in 0 source.sources,
+    few_held files 0 source.sources sources,
+    sum_is (λ (f : File). length f.bytes) 0 source.sources,
+    source.limits.short_together,
+  );
   small = ints files source.sources sources;
   numbered = ap (map (λ (f : File). f.tree)) source.numbered ∙ trees_numbered source.sources 0;
   includes = subst IncludeEachOther (sym source.numbered) (include_each_other source.sources (waves_are_closed files main source.sources source.waves));
