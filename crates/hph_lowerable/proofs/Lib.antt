@@ -17,3 +17,5 @@ pub mod GoodProgram
 pub mod SourceInts
 pub mod SourceLaw
 pub mod SourceTokens
+pub mod CodePlaces
+pub mod TokenPlaces

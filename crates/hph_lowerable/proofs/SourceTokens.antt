@@ -93,7 +93,7 @@ marks_hold = refl
 casts_hold : rows_hold casts ≡ 0
 casts_hold = refl
 
-mark_is : (bs : List ℕ) {what : Result Kind Construct} {n : ℕ} → mark_in marks bs ≡ Some (what, n) → held_of what + (1 - n) ≡ 0
+pub mark_is : (bs : List ℕ) {what : Result Kind Construct} {n : ℕ} → mark_in marks bs ≡ Some (what, n) → held_of what + (1 - n) ≡ 0
 mark_is bs is = omega (arith, ap mark_holds is, marks_in marks bs, marks_hold)
 
 casts_of : (bs : List ℕ) → cast_holds (cast_of bs) ≡ 0
@@ -114,7 +114,7 @@ behind_within p (b ∷ bs) = elim (p b) as (λ t. length (if t then behind p bs 
   | false ↦ omega arith
 ]
 
-cast_takes : (bs : List ℕ) → 0 < length bs → 1 ≤ cast_length bs
+pub cast_takes : (bs : List ℕ) → 0 < length bs → 1 ≤ cast_length bs
 cast_takes bs some = omega (
   arith,
   length-drop 1 (behind_cast (drop 1 bs)),
@@ -126,7 +126,7 @@ cast_takes bs some = omega (
 
 -- ---- what begins at a place
 
-front_some : (bs : List ℕ) → begins_with is_letter bs ≡ true → 1 ≤ length (front is_name_byte bs)
+pub front_some : (bs : List ℕ) → begins_with is_letter bs ≡ true → 1 ≤ length (front is_name_byte bs)
 front_some [] is = absurd (cc)
 front_some (b ∷ bs) is = by_test (is_letter b) is
   where
@@ -160,12 +160,12 @@ not_variable false false true g h = absurd (cc)
 not_variable false false false true h = absurd (cc)
 not_variable false false false false h = absurd (cc)
 
-name_begins : (bs : List ℕ) → start_of bs ≡ s.Name → begins_with is_letter bs ≡ true
+pub name_begins : (bs : List ℕ) → start_of bs ≡ s.Name → begins_with is_letter bs ≡ true
 unfolding start_of
 name_begins bs e = reached _ s.Name _ (past _ s.BlockComment _ s.Name (past _ s.LineComment _ s.Name (past _ s.Other _ s.Name (past _ s.CloseTag _ s.Name (past _ s.Whitespace _ s.Name e (λ h. absurd (cc))) (λ h. absurd (cc))) (λ h. absurd (cc))) (λ h. absurd (cc))) (λ h. absurd (cc)))
     (not_name _ _ _ _ _)
 
-last_true : (a b : Bool) → (a && b) ≡ true → b ≡ true
+pub last_true : (a b : Bool) → (a && b) ≡ true → b ≡ true
 last_true true b h = h
 last_true false b h = absurd (cc)
 
