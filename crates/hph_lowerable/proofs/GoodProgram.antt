@@ -1,5 +1,5 @@
 -- `echo f(); function f(){return 1;} function g(){return "b";}` is a well-formed program, and may be lowered by computation.
-use Rattle.std.specs.Prelude.{◌≡◌, ◌≤◌, ◌<◌, ◌+◌, ◌++◌, ℕ, zero, suc, max, Bool, true, false, ◌&&◌, List, [], ◌∷◌, length, All, Contains, Option, None, Some, String, codes, slice_get, map, flat_map, bytes_eq}
+use Rattle.std.specs.Prelude.{◌≡◌, ◌++◌, ℕ, true, false, ◌&&◌, List, [], ◌∷◌, All, Contains, None, Some, String, codes, slice_get, map, flat_map, bytes_eq}
 use Rattle.std.proofs.Common.{arith, refl, ap, sym, ◌∙◌, subst}
 use Rattle.std.proofs.lemmas.List.Elements.{All-contains, All-from_recursion}
 use Rattle.std.specs.declared.alloc.Global.{Global}
@@ -11,7 +11,7 @@ use Rattle.hph_ast.specs.declared.token.Token.{Token}
 use Rattle.hph_ast.specs.declared.token.Kind.TheVariants as k
 use Rattle.hph_ast.specs.declared.token.Mark.TheVariants as m
 use Rattle.hph_ast.specs.declared.keyword.Keyword.TheVariants as w
-use Rattle.hph_ast.specs.declared.expr.Expr.{Expr, roll-Expr, out-Expr}
+use Rattle.hph_ast.specs.declared.expr.Expr.{roll-Expr, out-Expr}
 use Rattle.hph_ast.specs.declared.expr.Expr.TheVariants as e
 use Rattle.hph_ast.specs.declared.expr.ClassReference.TheOpen.{Expr-F}
 use Rattle.hph_ast.specs.declared.function.Function.{Function, roll-Function}
@@ -19,7 +19,6 @@ use Rattle.hph_ast.specs.declared.function.Param.{Param}
 use Rattle.hph_ast.specs.declared.class.Member.TheOpen.{Statement-F}
 use Rattle.hph_ast.specs.declared.stmt.Statement.{Statement, roll-Statement, out-Statement}
 use Rattle.hph_ast.specs.declared.stmt.Statement.TheVariants as s
-use Rattle.hph_ast.specs.declared.program.File.{File}
 use Rattle.hph_ast.specs.declared.program.FileTree.{FileTree}
 use Rattle.hph_ast.specs.declared.program.Program.{Program}
 use Rattle.hph_ast.specs.Lexical.{token}
@@ -32,9 +31,9 @@ use Rattle.hph_ast.specs.StatementNesting.{SpellsTree, statement_nesting, file_n
 use Rattle.hph_ast.specs.RefusedStatements.{file_refused, first_found, tree_construct}
 use Rattle.hph_ast.proofs.ExpressionExamples.{int}
 use Rattle.hph_php.specs.Cost.{nodes, statement_nodes, program_nodes}
-use Rattle.hph_php.specs.State.{Site, is_site}
+use Rattle.hph_php.specs.State.{is_site}
 use Rattle.hph_php.specs.Declarations.{Codes, Placed, Declaration, declarations_in, codes_of, all_declarations, class_declarations, PlacedClass, placed_at, a_body, a_function}
-use Rattle.hph_program.specs.Names.{AgreesOnNames, AgreeOnReferences, KeepsPrivates, IsAncestor, params_of, wrong_arguments, wrong_arguments_of, expressions_in}
+use Rattle.hph_program.specs.Names.{AgreesOnNames, AgreeOnReferences, KeepsPrivates, params_of, wrong_arguments, wrong_arguments_of, expressions_in}
 use Rattle.hph_program.specs.Sites.{numbered_trees}
 use Rattle.hph_program.specs.Sources.{includes_in, included}
 use Rattle.hph_program.specs.WellFormed.{HasPlacesApart, IsWellFormed, IncludeEachOther, IsIntOfPrograms}
@@ -99,17 +98,17 @@ as_spelled = s.Echo (from_to 6 15) (e.Call (from_to 11 14) (codes "f") [] ∷ []
 statements_are : as_spelled ≡ statements
 statements_are = (λ i. echo_is i ∷ f_of (returns_1_is i) ∷ g_of (returns_b_is i) ∷ [])
     ∙ (λ i. echo_f ∷ sym (s.rolls-Function (tree.function 16 39 25 (codes "f") [] (returns_1 ∷ []))) i
-        ∷ sym (s.rolls-Function (tree.function 40 65 49 (codes "g") [] (returns_b ∷ []))) i ∷ [])
+    ∷ sym (s.rolls-Function (tree.function 40 65 49 (codes "g") [] (returns_b ∷ []))) i ∷ [])
 
 tokens_are_statements : IsStatements true tokens as_spelled []
 unfolding out-Expr out-Statement out
 tokens_are_statements =
     g.statements_more (g.echo refl (g.exprs_last
-      (x.term (x.postfix (x.primary (x.call refl refl (x.arguments_end refl)) (x.no_steps x.ends)) refl)) refl))
+    (x.term (x.postfix (x.primary (x.call refl refl (x.arguments_end refl)) (x.no_steps x.ends)) refl)) refl))
     (g.statements_more (g.function (g.a_function refl refl refl (d.params_end refl) d.no_result refl
-      (g.statements_more (g.return refl (int refl) refl) g.statements_end) refl))
+    (g.statements_more (g.return refl (int refl) refl) g.statements_end) refl))
     (g.statements_more (g.function (g.a_function refl refl refl (d.params_end refl) d.no_result refl
-      (g.statements_more (g.return refl (x.term (x.postfix (x.primary (x.text refl) (x.no_steps x.ends)) refl)) refl) g.statements_end) refl))
+    (g.statements_more (g.return refl (x.term (x.postfix (x.primary (x.text refl) (x.no_steps x.ends)) refl)) refl) g.statements_end) refl))
     g.statements_end))
 
 nesting_is : file_nesting (tree_of statements) ≡ 4

@@ -1,13 +1,13 @@
 -- What may not be lowered: each of these breaks one field of the condition.
-use Rattle.std.specs.Prelude.{◌≡◌, true, false, [], ◌∷◌, None, Some, codes}
+use Rattle.std.specs.Prelude.{◌≡◌, true, false, [], ◌∷◌, None, codes}
 use Rattle.std.proofs.Common.{refl}
 use Rattle.hph_ast.specs.declared.class.Member.TheOpen.{Statement-F}
-use Rattle.hph_ast.specs.declared.stmt.Statement.{Statement, roll-Statement}
+use Rattle.hph_ast.specs.declared.stmt.Statement.{roll-Statement}
 use Rattle.hph_ast.specs.declared.refusal.Construct.TheVariants as c
 use Rattle.hph_ast.specs.ConstantExpressions.{is_constant}
 use Rattle.hph_ast.specs.RefusedExpressions.{a_text, a_directory_path}
 use Rattle.hph_ast.specs.RefusedStatements.{file_refused}
-use Rattle.hph_program.proofs.Trees.{trees, from_to, int, text, variable, call, set}
+use Rattle.hph_program.proofs.Trees.{trees, from_to, int, call, set}
 use Rattle.hph_lowerable.specs.Facts.{expression_fits, constant_fits}
 use Rattle.hph_lowerable.specs.Lowerable.{names_file}
 use Rattle.hph_lowerable.proofs.ExpressionLevels.{facts_rolled}

@@ -73,7 +73,7 @@ none_found : (xs : Found) → first_found xs ≡ None → xs ≡ []
 none_found [] e = refl
 none_found (x ∷ xs) e = absurd (cc)
 
-sum_is : {A : Type 0} (f : A → ℕ) (n : ℕ) (xs : List A) → fold (λ n x. n + f x) n xs ≡ n + total_of f xs
+pub sum_is : {A : Type 0} (f : A → ℕ) (n : ℕ) (xs : List A) → fold (λ n x. n + f x) n xs ≡ n + total_of f xs
 sum_is f n [] = omega arith
 sum_is f n (x ∷ xs) = omega (arith, sum_is f (n + f x) xs)
 

@@ -7,4 +7,4 @@
 
 mod laws;
 
-pub use laws::well_formed_is_lowerable;
+pub use laws::{sources_are_well_formed, well_formed_is_lowerable};
