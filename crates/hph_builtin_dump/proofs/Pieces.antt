@@ -1,9 +1,8 @@
 -- What was written, what waits and what is still to be printed, step by step.
-use Rattle.std.proofs.Common.{◌≡◌, ◌∙◌, ◌+◌, ◌++◌, ◌<◌, ◌≤◌, ℕ, suc, zero, Bool, true, false, List, [], ◌∷◌, length, take, map, drop}
+use Rattle.std.proofs.Common.{◌≡◌, ◌∙◌, ◌+◌, ◌++◌, ◌<◌, ℕ, suc, zero, Bool, true, false, List, [], ◌∷◌, length, take, map, drop}
 use Rattle.std.proofs.Common.{Option, None, Some, Ok, Err, Result, OnOk, refl, sym, ap, subst, append_assoc, arith, get_or}
 use Rattle.std.proofs.lemmas.List.{drop_more}
 use Rattle.hph_src.specs.Sink.{grown_by, GrowsByPrefix}
-use Rattle.hph_php.specs.Values.{Value}
 use Rattle.hph_php.specs.VarDump.{Dump, followed_by, dump, dump_all}
 use Rattle.hph_value.specs.declared.value.Value as code
 use Rattle.hph_value.specs.declared.value.Stop.{Stop}
@@ -14,7 +13,7 @@ use Rattle.hph_builtin_dump.specs.declared.flush.HostStop.TheVariants.{NoMemory,
 use Rattle.hph_php.specs.declared.fatal.Fatal.{Fatal}
 use Rattle.hph_value.specs.Shown.{value_of}
 use Rattle.hph_builtin_dump.specs.declared.frame.Frame.{Frame}
-use Rattle.hph_builtin_dump.specs.Dumps.{nothing, an_object, left, after, Goes, Enters, Advances}
+use Rattle.hph_builtin_dump.specs.Dumps.{nothing, an_object, left, after, Goes, Advances}
 use Rattle.hph_builtin_dump.proofs.Steps.{with_rest}
 use Rattle.hph_builtin_dump.specs.Prints.{host_stop, Passes, Flushes, Prints, Printed, Shows}
 
@@ -72,10 +71,10 @@ pub breaks : (a b : Dump) (c d e : Option (List ℕ)) (x y : List ℕ) → Print
 breaks a b c d e x y p g = (
   length p.flushed + g.0,
   g.1
-  ∙ (ap (λ k. grown_by k (take g.0 (y ++ b.text))) p.content
-  ∙ (grown_twice c p.flushed (take g.0 (y ++ b.text))
-  ∙ (ap (λ l. grown_by c l) (take_behind p.flushed (y ++ b.text) g.0)
-  ∙ ap (λ l. grown_by c (take (length p.flushed + g.0) l)) (sym p.text)))),
+      ∙ (ap (λ k. grown_by k (take g.0 (y ++ b.text))) p.content
+      ∙ (grown_twice c p.flushed (take g.0 (y ++ b.text))
+      ∙ (ap (λ l. grown_by c l) (take_behind p.flushed (y ++ b.text) g.0)
+      ∙ ap (λ l. grown_by c (take (length p.flushed + g.0) l)) (sym p.text)))),
 )
 
 -- a prefix of the front is one of the whole

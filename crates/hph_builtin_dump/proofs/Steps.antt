@@ -191,9 +191,9 @@ pair_goes top depth key v begun rest x y z n e g =
     let first : Dump = dump depth (value_of v) in
     let others : Dump = left_of top.pairs.now top.depth (top.at + 1) in
     let whole : followed_by (left top) rest ≡ followed_by named (followed_by first (followed_by others rest)) =
-        ap (λ d. followed_by d rest) (left_next top.pairs.now top.depth top.at key v n.there
-        ∙ ap (λ m. followed_by (line m (key_line key)) (followed_by (dump m (value_of v)) others)) (sym n.deeper))
-        ∙ (in_turn named (followed_by first others) rest ∙ ap (λ d. followed_by named d) (in_turn first others rest)) in
+    ap (λ d. followed_by d rest) (left_next top.pairs.now top.depth top.at key v n.there
+    ∙ ap (λ m. followed_by (line m (key_line key)) (followed_by (dump m (value_of v)) others)) (sym n.deeper))
+    ∙ (in_turn named (followed_by first others) rest ∙ ap (λ d. followed_by named d) (in_turn first others rest)) in
     let P : Dump → Type 0 = λ d. Goes d (followed_by begun (followed_by others rest)) x z in
     subst P (sym whole)
     (goes_further (followed_by named (followed_by first (followed_by others rest))) (followed_by first (followed_by others rest)) (followed_by begun (followed_by others rest)) x y z
@@ -225,7 +225,7 @@ value_enters inner next top frames more depth key v x y z n e g b m = record {
   goes =
       let P : Dump → Type 0 = λ d. Goes (followed_by (left top) (after frames)) (followed_by (left inner) d) x z in
       let listed : after more ≡ followed_by (left_of top.pairs.now top.depth (top.at + 1)) (after frames) =
-          ap after m ∙ (after_more frames next ∙ ap (λ d. followed_by d (after frames)) (others_left next top b)) in
+      ap after m ∙ (after_more frames next ∙ ap (λ d. followed_by d (after frames)) (others_left next top b)) in
       subst P (sym listed) (pair_goes top depth key v (left inner) (after frames) x y z n e g.goes);
   less =
       let now : size_of top.pairs.now top.at ≡ nodes (value_of v) + size_of top.pairs.now (top.at + 1) = size_next top.pairs.now top.at (key, v) n.there in

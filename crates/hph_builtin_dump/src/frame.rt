@@ -17,13 +17,21 @@ pub struct Frame<'a> {
 }
 
 /// Prints a value, but for the pairs and the end of an array.
-pub fn enter<'a>(buffer: &mut Vec<u8>, depth: u64, value: &'a Value) -> Result<Option<Frame<'a>>, Stop>
+pub fn enter<'a>(
+    buffer: &mut Vec<u8>,
+    depth: u64,
+    value: &'a Value,
+) -> Result<Option<Frame<'a>>, Stop>
     ensures { Enters result depth (value_of value.now) buffer.old.items buffer.new.items }
 {
     match put_value(buffer, depth, value) {
         Err(stop) => Err(stop),
         Ok(()) => match array_in(value) {
-            Some(pairs) => Ok(Some(Frame { pairs, depth, at: 0 })),
+            Some(pairs) => Ok(Some(Frame {
+                pairs,
+                depth,
+                at: 0,
+            })),
             None => Ok(None),
         },
     }

@@ -52,7 +52,12 @@ fn put_string(buffer: &mut Vec<u8>, depth: u64, bytes: &[u8]) -> Result<(), Allo
 {
     let mut digits = Buffer::new();
     indent(buffer, depth)?;
-    put(buffer, b"string(", digits.format(bytes.len()).as_bytes(), b") \"")?;
+    put(
+        buffer,
+        b"string(",
+        digits.format(bytes.len()).as_bytes(),
+        b") \"",
+    )?;
     put(buffer, bytes, b"\"", b"\n")
 }
 
@@ -63,7 +68,13 @@ pub fn put_key(buffer: &mut Vec<u8>, depth: u64, key: &Key) -> Result<(), AllocE
     match key {
         Key::Int(number) => {
             let mut digits = Buffer::new();
-            put_line(buffer, depth, b"[", digits.format(*number).as_bytes(), b"]=>")
+            put_line(
+                buffer,
+                depth,
+                b"[",
+                digits.format(*number).as_bytes(),
+                b"]=>",
+            )
         }
         Key::Str(bytes) => put_line(buffer, depth, b"[\"", bytes.as_slice(), b"\"]=>"),
     }
@@ -79,13 +90,25 @@ pub fn put_value(buffer: &mut Vec<u8>, depth: u64, value: &Value) -> Result<(), 
         Value::Bool(false) => Ok(put_line(buffer, depth, b"bool(false)", b"", b"")?),
         Value::Int(number) => {
             let mut digits = Buffer::new();
-            Ok(put_line(buffer, depth, b"int(", digits.format(*number).as_bytes(), b")")?)
+            Ok(put_line(
+                buffer,
+                depth,
+                b"int(",
+                digits.format(*number).as_bytes(),
+                b")",
+            )?)
         }
         Value::Str(bytes) => Ok(put_string(buffer, depth, bytes.as_slice())?),
         Value::Arr(elements) => {
             let mut digits = Buffer::new();
             let size = elements.get().map.len();
-            Ok(put_line(buffer, depth, b"array(", digits.format(size).as_bytes(), b") {")?)
+            Ok(put_line(
+                buffer,
+                depth,
+                b"array(",
+                digits.format(size).as_bytes(),
+                b") {",
+            )?)
         }
         Value::Obj(_) => Err(Stop::Fatal(Fatal::ObjectUse)),
     }

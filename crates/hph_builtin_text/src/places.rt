@@ -1,5 +1,5 @@
 //! Where strings stand in one another. No call takes memory.
-ghost use Rattle.std.specs.Prelude.{◌≡◌, ◌+◌, ◌<◌, ◌≤◌, length, IfSome};
+ghost use Rattle.std.specs.Prelude.{◌≡◌, ◌+◌, ◌<◌, ◌≤◌, ◌^◌, length, IfSome};
 ghost use Rattle.hph_php.specs.StringFunctions as php;
 ghost use Rattle.hph_builtin_text.specs.Splits.{Splits};
 
@@ -32,7 +32,8 @@ pub fn first_place(needle: &[u8], bytes: &[u8]) -> Option<usize>
 /// The first place from an offset on where the needle stands, counted from the start (`strpos`).
 pub fn place_from(bytes: &[u8], needle: &[u8], offset: usize) -> Option<usize>
     requires { offset ≤ length bytes.now }
-    ensures { result ≡ php.strpos bytes.now needle.now offset }
+    ensures value { result ≡ php.strpos bytes.now needle.now offset }
+    ensures small { IfSome result (λ place. place < 2 ^ 63) }
 {
     match first_place(needle, &bytes[offset..]) {
         Some(place) => Some(offset + place),

@@ -1,7 +1,6 @@
-use Rattle.std.proofs.Common.{sym, arith}
+use Rattle.std.proofs.Common.{arith}
 use Rattle.hph_php.specs.VarDump.{Dump, followed_by}
 use Rattle.hph_builtin_dump.specs.Dumps.{left, after, GoesOn}
-use Rattle.hph_builtin_dump.specs.Prints.{Prints}
 use Rattle.hph_builtin_dump.proofs.Pieces.{puts, writes, advance_stops, flush_stops}
 use Rattle.hph_builtin_dump.proofs.print.print_array.Goals as goal
 
@@ -14,7 +13,7 @@ returns-in-Err-clause-printed g c =
 pub returns-in-Err-flush_long-clause-printed : goal.returns-in-Err-flush_long-clause-printed
 returns-in-Err-flush_long-clause-printed g c =
     let goes : GoesOn c.in-Ok-Some.frame c.pairs.top c.pairs.frames.items c.advance.new.frames.items c.pairs.buffer.items c.advance.new.buffer.items =
-        rw c.in-Ok-Some.field-0-is at c.in-Ok-Some.ensures in
+    rw c.in-Ok-Some.field-0-is at c.in-Ok-Some.ensures in
     let next : Dump = followed_by (left c.in-Ok-Some.frame) (after c.advance.new.frames.items) in
     flush_stops c.in-Err-flush_long.stop (left c.args.array) next (g.O.Sink.content c.args.out.now) (g.O.Sink.content c.pairs.out)
     (g.O.Sink.content c.flush_long.new.out) c.args.buffer.now.items c.advance.new.buffer.items c.flush_long.new.buffer.items
@@ -25,7 +24,7 @@ returns-in-Err-flush_long-clause-printed g c =
 pub pairs-preserved : goal.pairs-preserved
 pairs-preserved g c =
     let goes : GoesOn c.in-Ok-Some.frame c.pairs.top c.pairs.frames.items c.advance.new.frames.items c.pairs.buffer.items c.advance.new.buffer.items =
-        rw c.in-Ok-Some.field-0-is at c.in-Ok-Some.ensures in
+    rw c.in-Ok-Some.field-0-is at c.in-Ok-Some.ensures in
     let next : Dump = followed_by (left c.in-Ok-Some.frame) (after c.advance.new.frames.items) in
     record {
       prints =

@@ -1,5 +1,5 @@
 use Rattle.std.proofs.Common.{◌+◌, drop, map, arith, subst}
-use Rattle.hph_php.specs.VarDump.{Dump, followed_by, dump, dump_all}
+use Rattle.hph_php.specs.VarDump.{Dump, dump, dump_all}
 use Rattle.hph_value.specs.Shown.{value_of}
 use Rattle.hph_builtin_dump.specs.Dumps.{nothing}
 use Rattle.hph_builtin_dump.specs.Prints.{Prints}
