@@ -8,7 +8,7 @@ use Rattle.hph_wasm.specs.Functions.{Defined, functions}
 use Rattle.hph_wasm.specs.Outcome.{End, Trap}
 use Rattle.hph_wasm.specs.Configuration.{Host, Label, Frame, Configuration, Setting, Running, Calling, Trapped, Stuck, Ended}
 use Rattle.hph_wasm.specs.Place.{trap_at}
-use Rattle.hph_wasm.specs.Reduction.{step, reduce}
+use Rattle.hph_wasm.specs.Reduction.{reduce}
 use Rattle.hph_wasm.specs.Run.{start}
 use Rattle.hph_wasm.specs.Opcodes.{Opcode, EndOfCode, opcodes}
 
