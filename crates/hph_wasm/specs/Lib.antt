@@ -33,5 +33,4 @@ pub mod Rewriting
 pub mod Fitting
 pub mod Safety
 pub mod HostAnswers
-pub mod Php1
 pub mod Agrees
