@@ -5,3 +5,9 @@ pub mod ClassRows
 pub mod RowsAreSound
 pub mod Host
 pub mod Tables
+pub mod Modules
+pub mod WorkedSum
+pub mod WorkedOverflow
+pub mod WorkedReferences
+pub mod WorkedRecursion
+pub mod WorkedStatic

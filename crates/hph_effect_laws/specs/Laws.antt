@@ -2,16 +2,23 @@
 use Rattle.std.specs.Prelude.{◌≡◌, ◌≢◌, ℕ, List, length, Option, Some}
 use Rattle.std.specs.Option.{option_map}
 use Rattle.hph_wasm.specs.Configuration.{Goes, Stops}
-use Rattle.hph_php.specs.Imports.{Import}
+use Rattle.hph_php.specs.Imports.{Import, host_name, import_row}
 use Rattle.hph_php.specs.Answers.{Stop}
 use Rattle.hph_effects.specs.declared.row.Row.{Row}
 use Rattle.hph_effects.specs.Hosts.{HostState, HostStatus, Serving, Halted, misuse}
-use Rattle.hph_effects.specs.Rows.{row_import}
+use Rattle.hph_effects.specs.Rows.{row_number, row_import}
 use Rattle.hph_effects.specs.Effects.{effect_of, params_of, call_row, effect, output_of}
 
 -- A row's effect takes what its type in the table of imports says.
 abbrev pub TakesItsParams : Type 0
 TakesItsParams = (row : Row) → option_map (λ (i : Import). i.type.params) (row_import row) ≡ Some (params_of (effect_of row))
+
+-- A module imports a row by its name and type, and a call of that import is the row's.
+abbrev pub IsImportedAsItself : Type 0
+IsImportedAsItself = (row : Row) → option_map (λ (i : Import). import_row host_name i.name i.type) (row_import row) ≡ Some (Some (row_number row))
+
+abbrev pub CallsGoByRow : Type 0
+CallsGoByRow = (row : Row) (h : HostState) (args memory : List ℕ) → effect (row_number row) (Serving h) args memory ≡ call_row row h args memory
 
 -- Another number of arguments is a wrong use.
 abbrev pub CountsArguments : Type 0

@@ -10,7 +10,7 @@ ghost use Rattle.hph_php.specs.Answers.{Stop};
 ghost use Rattle.hph_effects.specs.Hosts.{HostStatus};
 ghost use Rattle.hph_effects.specs.Effects.{php1};
 ghost use Rattle.hph_effect_laws.specs.Below.{LeavesBelow};
-ghost use Rattle.hph_effect_laws.specs.Laws.{TakesItsParams, CountsArguments, StaysHalted, EndsHalted, GoesServing};
+ghost use Rattle.hph_effect_laws.specs.Laws.{TakesItsParams, IsImportedAsItself, CallsGoByRow, CountsArguments, StaysHalted, EndsHalted, GoesServing};
 
 use hph_wasm::{AnyHost, both_directions, never_stuck, run_laws};
 
@@ -39,6 +39,13 @@ impl AnyHost for Php1 {
 #[tactic(auto, using(crate::proofs::Tables::takes_its_params))]
 pub fn effects_take_their_parameters()
     ensures { TakesItsParams }
+{}
+
+/// A module imports a row by its name and type, under its number, and a call of that number is the row's.
+#[tactic(auto, using(crate::proofs::Tables::is_imported_as_itself))]
+pub fn rows_are_imported()
+    ensures imported { IsImportedAsItself }
+    ensures called { CallsGoByRow }
 {}
 
 /// A call with another number of arguments than its row takes is a wrong use.

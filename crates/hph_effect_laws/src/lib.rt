@@ -8,5 +8,5 @@ mod laws;
 pub use laws::{
     Php1, calls_count_arguments, calls_leave_what_lies_below, effects_take_their_parameters,
     host_keeps_its_types, host_never_takes_back, host_stays_halted, php1_both_directions,
-    php1_never_stuck, php1_runs,
+    php1_never_stuck, php1_runs, rows_are_imported,
 };

@@ -4,6 +4,7 @@ ghost use Rattle.hph_effects.specs.declared.row.Row.{Row};
 ghost use Rattle.hph_effects.specs.Rows.{row_number, all_rows, row_with, row_import};
 
 use hph_case::import_rows;
+use hph_wasm::ValType;
 
 /// A function that modules import from `php1`, in the order of the imports' numbers. What it does is `effect_of` of specs/Effects.antt.
 #[derive(Clone, Copy, Debug, PartialEq, Eq)]
@@ -104,6 +105,22 @@ macro_rules! name_of {
     };
 }
 
+macro_rules! params_of {
+    ([$($row:tt)*] $($variant:ident = $number:literal, $name:literal, [$($param:ident)*], [$($result:ident)*];)*) => {
+        match $($row)* {
+            $(Row::$variant => &[$(ValType::$param,)*],)*
+        }
+    };
+}
+
+macro_rules! results_of {
+    ([$($row:tt)*] $($variant:ident = $number:literal, $name:literal, [$($param:ident)*], [$($result:ident)*];)*) => {
+        match $($row)* {
+            $(Row::$variant => &[$(ValType::$result,)*],)*
+        }
+    };
+}
+
 impl Row {
     /// All rows, in the order of their numbers.
     pub fn all() -> [Row; 72]
@@ -135,5 +152,19 @@ impl Row {
         ensures { option_map (λ import. import.name) (row_import self) ≡ Some result.now }
     {
         import_rows!(name_of self)
+    }
+
+    /// The types of the parameters.
+    pub fn params(self) -> &'static [ValType]
+        ensures { option_map (λ import. import.type.params) (row_import self) ≡ Some result.now }
+    {
+        import_rows!(params_of self)
+    }
+
+    /// The types of the results, of which there is one at most.
+    pub fn results(self) -> &'static [ValType]
+        ensures { option_map (λ import. import.type.results) (row_import self) ≡ Some result.now }
+    {
+        import_rows!(results_of self)
     }
 }

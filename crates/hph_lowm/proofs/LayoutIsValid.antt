@@ -6,7 +6,7 @@ use Rattle.hph_wasm.specs.Validity.{IsSequence, Context}
 use Rattle.hph_wasm.specs.ModuleValidity.{IsValid, IsSegment}
 use Rattle.hph_wasm.specs.Instantiation.{SegmentsFit}
 use Rattle.hph_wasm.specs.Run.{IsLinked}
-use Rattle.hph_wasm.specs.Php1.{php1}
+use Rattle.hph_effects.specs.Effects.{php1}
 use Rattle.std.specs.List.{AllByRecursion}
 use Rattle.hph_lowm.specs.Layout.{pages_of, write_type, main_type, prints_from, segments_of, module_of}
 

@@ -12,7 +12,9 @@ use Rattle.hph_wasm.specs.Configuration.{Setting, Configuration, Running}
 use Rattle.hph_wasm.specs.Reduction.{reduce}
 use Rattle.hph_wasm.specs.Instantiation.{zeros, with_segments, memory_at_start}
 use Rattle.hph_wasm.specs.Run.{wasm, outcome_of, start}
-use Rattle.hph_wasm.specs.Php1.{php1, PhpStop}
+use Rattle.hph_php.specs.Answers.{Stop}
+use Rattle.hph_effects.specs.Hosts.{HostStatus, Serving, empty_host, print}
+use Rattle.hph_effects.specs.Effects.{php1}
 use Rattle.hph_wasm.specs.Agrees.{Follows}
 use Rattle.std.proofs.Math.Nat.{le_trans}
 use Rattle.hph_lowm.specs.Layout.{pages_of, prints_from, segments_of, module_of}
@@ -20,15 +22,15 @@ use Rattle.hph_lowm.specs.Program.{php, cost}
 
 -- reductions are made in turn, which is a law of WebAssembly's reduction
 abbrev pub InTurn : Type 0
-InTurn = (m : Module) (i j : ℕ) (c : Configuration (List ℕ) PhpStop) → reduce php1 m (i + j) c ≡ reduce php1 m j (reduce php1 m i c)
+InTurn = (m : Module) (i j : ℕ) (c : Configuration HostStatus Stop) → reduce php1 m (i + j) c ≡ reduce php1 m j (reduce php1 m i c)
 
 -- main runs, and this has been printed
-abbrev printing : List ℕ → List ℕ → Setting (List ℕ)
+abbrev printing : List ℕ → List ℕ → Setting HostStatus
 printing memory output = record {
   locals = [];
   labels = [];
   frames = record { function = 1; arity = 0; values = []; rest = []; locals = []; labels = [] } ∷ [];
-  store = record { host = output; memory = memory; globals = [] };
+  store = record { host = Serving (print output empty_host); memory = memory; globals = [] };
 }
 
 module _ (in_turn : InTurn) (program : List (List ℕ)) (memory : List ℕ) where
@@ -75,14 +77,14 @@ reductions : List (List ℕ) → ℕ
 reductions texts = 1 + (4 * length texts + 1)
 
 -- then it has printed the texts and ended
-module_ends : InTurn → (texts : List (List ℕ)) → wasm php1 [] (module_of texts) (reductions texts) ≡ record { output = concat texts; end = Done }
+module_ends : InTurn → (texts : List (List ℕ)) → wasm php1 (Serving empty_host) (module_of texts) (reductions texts) ≡ record { output = concat texts; end = Done }
 unfolding reductions
 module_ends in_turn texts =
     let memory = memory_at_start (module_of texts) in
     let lies = memory_lies (pages_of (length (concat texts))) texts in
-    let main : Configuration (List ℕ) PhpStop = Running (prints_from 0 texts) [] (printing memory []) in
+    let main : Configuration HostStatus Stop = Running (prints_from 0 texts) [] (printing memory []) in
     ap (outcome_of php1 (module_of texts)) (
-    ap (λ n. reduce php1 (module_of texts) n (start [] (module_of texts) 1)) (one_more (4 * length texts + 1))
+    ap (λ n. reduce php1 (module_of texts) n (start (Serving empty_host) (module_of texts) 1)) (one_more (4 * length texts + 1))
     ∙ in_turn (module_of texts) (4 * length texts) 1 main
     ∙ ap (reduce php1 (module_of texts) 1) (texts_run in_turn texts memory texts 0 [] lies.0 lies.1 (omega arith))
     )
@@ -102,9 +104,9 @@ within_cost texts nodes units enough =
     le_trans needed most
 
 -- a run that is done is over
-done_is_not_more : ◌≡◌ {A = End PhpStop} Done More → ⊥
+done_is_not_more : ◌≡◌ {A = End Stop} Done More → ⊥
 done_is_not_more same = cc
 
-pub layout_follows : InTurn → (texts : List (List ℕ)) (nodes : ℕ) → length texts ≤ nodes → Follows (php texts) (wasm php1 [] (module_of texts)) (cost nodes)
+pub layout_follows : InTurn → (texts : List (List ℕ)) (nodes : ℕ) → length texts ≤ nodes → Follows (php texts) (wasm php1 (Serving empty_host) (module_of texts)) (cost nodes)
 layout_follows in_turn texts nodes enough zero = (0, omega arith, refl, λ _. omega arith)
 layout_follows in_turn texts nodes enough (suc units) = (reductions texts, within_cost texts nodes units enough, module_ends in_turn texts, λ goes_on. absurd (done_is_not_more goes_on))

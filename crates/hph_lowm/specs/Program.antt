@@ -2,10 +2,10 @@
 use Rattle.std.specs.Prelude.{◌≡◌, ℕ, zero, suc, ◌+◌, ◌*◌, List, [], ◌∷◌, codes, refl}
 use Rattle.std.specs.List.{concat}
 use Rattle.hph_wasm.specs.Outcome.{Outcome, Done, More}
-use Rattle.hph_wasm.specs.Php1.{PhpStop}
+use Rattle.hph_php.specs.Answers.{Stop}
 
 -- What has been printed with at most so many units, and whether the program has ended: without a unit it has done nothing, and the first one pays for all texts.
-abbrev pub php : List (List ℕ) → ℕ → Outcome PhpStop
+abbrev pub php : List (List ℕ) → ℕ → Outcome Stop
 php texts zero = record { output = []; end = More }
 php texts (suc units) = record { output = concat texts; end = Done }
 

@@ -4,9 +4,10 @@ ghost use Rattle.hph_wasm.specs.Spelling.{IsWritable};
 ghost use Rattle.hph_lowm.specs.Compiles.{Compiles};
 ghost use Rattle.hph_lowm.specs.Layout.{pages_of, write_type, main_type, write_import, main_export, prints_from, segments_of, module_of};
 
+use hph_effect_laws::{Php1, php1_both_directions};
 use hph_wasm::{
     Export, ExportDesc, Func, FuncType, Import, ImportDesc, Instr, Limits, Locals, Module, Name,
-    Php1, Segment, ValType, php1_both_directions, reductions_in_turn,
+    Segment, ValType, reductions_in_turn,
 };
 use sqlite_items::Items;
 use std::alloc::{AllocError, Global};

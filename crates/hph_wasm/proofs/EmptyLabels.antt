@@ -1,10 +1,10 @@
 -- Labels and frames that take no values are left whatever is on the stack.
-use Rattle.std.proofs.Common.{◌≡◌, List, [], ◌∷◌, ◌++◌, true, refl, sym, subst, length, take}
+use Rattle.std.proofs.Common.{◌≡◌, List, [], ◌++◌, true, refl, sym, subst, length, take}
 use Rattle.std.proofs.Math.Dec.{leb-zero}
 use Rattle.std.specs.Prelude.{cond, nat_eq, nat_le}
 use Rattle.hph_wasm.specs.declared.value.Value.{Value}
 use Rattle.hph_wasm.specs.declared.module.Module.{Module}
-use Rattle.hph_wasm.specs.Configuration.{Host, Label, Frame, Store, Setting, Configuration, Running}
+use Rattle.hph_wasm.specs.Configuration.{Host, Running}
 use Rattle.hph_wasm.specs.Reduction.{after_return}
 use Rattle.hph_wasm.specs.Blocks.{EmptyLabelsAreLeft, EmptyFramesAreLeft, EmptyFramesEnd}
 

@@ -17,7 +17,7 @@ use Rattle.hph_wasm.specs.ModuleValidity.{IsValid}
 use Rattle.hph_wasm.specs.Instantiation.{zeros, SegmentsFit}
 use Rattle.hph_wasm.specs.Outcome.{Done, More, Stopped, Trap}
 use Rattle.hph_wasm.specs.Run.{wasm, invoked, IsLinked}
-use Rattle.hph_wasm.specs.Php1.{php1, Misuse}
+use Rattle.hph_wasm.proofs.Printer.{printer, Misuse}
 use Rattle.hph_wasm.proofs.Rows.{listed, valid-block, size-block}
 
 -- The 32 bits of the least number and of -1.
@@ -65,45 +65,45 @@ abbrev in_block : List Instr → List Instr
 in_block body = view.Block no_result body ∷ []
 
 -- Before the second reduction of a call nothing has happened.
-nothing_after_four : wasm php1 [] (with_main write_three) 4 ≡ record { output = []; end = More }
+nothing_after_four : wasm printer [] (with_main write_three) 4 ≡ record { output = []; end = More }
 nothing_after_four = refl
 
 -- The call of the import is two reductions.
-three_after_five : wasm php1 [] (with_main write_three) 5 ≡ record { output = codes "3"; end = More }
+three_after_five : wasm printer [] (with_main write_three) 5 ≡ record { output = codes "3"; end = More }
 unfolding zeros
 three_after_five = refl
 
 -- Leaving main is one more.
-three_after_six : wasm php1 [] (with_main write_three) 6 ≡ record { output = codes "3"; end = Done }
+three_after_six : wasm printer [] (with_main write_three) 6 ≡ record { output = codes "3"; end = Done }
 unfolding zeros
 three_after_six = refl
 
 -- Only main is a function of the module's own.
-main_is_entered : invoked php1 [] (with_main write_three) 6 ≡ 1 ∷ []
+main_is_entered : invoked printer [] (with_main write_three) 6 ≡ 1 ∷ []
 unfolding zeros
 main_is_entered = refl
 
 -- Entering a block is a reduction.
-nested_after_seven : wasm php1 [] (with_main (in_block write_three)) 7 ≡ record { output = codes "3"; end = More }
+nested_after_seven : wasm printer [] (with_main (in_block write_three)) 7 ≡ record { output = codes "3"; end = More }
 unfolding zeros
 nested_after_seven = rw (listed write_three) refl
 
 -- Leaving the block is one.
-nested_after_eight : wasm php1 [] (with_main (in_block write_three)) 8 ≡ record { output = codes "3"; end = Done }
+nested_after_eight : wasm printer [] (with_main (in_block write_three)) 8 ≡ record { output = codes "3"; end = Done }
 unfolding zeros
 nested_after_eight = rw (listed write_three) refl
 
 -- A length of -1 is 2^32 - 1 bytes, more than the memory has.
-misuse : wasm php1 [] (with_main (I32Const (pos 0) ∷ I32Const (negsuc 0) ∷ Call 0 ∷ [])) 5 ≡ record { output = []; end = Stopped Misuse }
+misuse : wasm printer [] (with_main (I32Const (pos 0) ∷ I32Const (negsuc 0) ∷ Call 0 ∷ [])) 5 ≡ record { output = []; end = Stopped Misuse }
 unfolding zeros
 misuse = refl
 
 -- A call with too few arguments shows a trap at its opcode.
-too_few_arguments : wasm php1 [] (with_main (I32Const (pos 0) ∷ Call 0 ∷ [])) 9 ≡ record { output = []; end = Trap 1 1 }
+too_few_arguments : wasm printer [] (with_main (I32Const (pos 0) ∷ Call 0 ∷ [])) 9 ≡ record { output = []; end = Trap 1 1 }
 too_few_arguments = refl
 
 -- Inside a block the opcodes outside count too.
-too_few_in_block : wasm php1 [] (with_main (I32Const (pos 0) ∷ in_block (Call 0 ∷ []))) 9 ≡ record { output = []; end = Trap 1 2 }
+too_few_in_block : wasm printer [] (with_main (I32Const (pos 0) ∷ in_block (Call 0 ∷ []))) 9 ≡ record { output = []; end = Trap 1 2 }
 too_few_in_block = rw (listed (Call 0 ∷ []), size-block no_result (Call 0 ∷ [])) refl
 
 -- The instructions take nothing and leave nothing, in each context.
@@ -166,7 +166,7 @@ too_few_is_invalid valid =
     one_is_not_two body.0 body.1.0 call.2.0 call.0 body.1.1 body.1.2 call.1 call.2.1
 
 -- The host has what the module imports.
-three_is_linked : IsLinked php1 (with_main write_three)
+three_is_linked : IsLinked printer (with_main write_three)
 three_is_linked = record { imports = ((write_type, refl, 0, refl), tt); main = (1, refl, refl) }
 
 -- The segment ends within the page.

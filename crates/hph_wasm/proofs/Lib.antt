@@ -25,7 +25,7 @@ pub mod Choices
 pub mod OpcodeLists
 pub mod Steps
 pub mod Runs
-pub mod Php1Lemmas
+pub mod Printer
 pub mod Places
 pub mod PlacedSteps
 pub mod Typing

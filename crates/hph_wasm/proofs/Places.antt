@@ -2,11 +2,9 @@
 use Rattle.std.proofs.Common.{◌≡◌, ◌<◌, ◌⊎◌, inl, inr, ◌∙◌, ℕ, zero, suc, ◌+◌, List, [], ◌∷◌, ◌++◌, append_assoc, Some, length, length-append, refl, sym, ap, subst, arith}
 use Rattle.std.specs.Prelude.{slice_get}
 use Rattle.hph_wasm.specs.declared.instr.Instr.{Instr, Br}
-use Rattle.hph_wasm.specs.declared.module.Func.{Func}
 use Rattle.hph_wasm.specs.declared.module.Module.{Module}
-use Rattle.hph_wasm.specs.Functions.{Defined, functions}
-use Rattle.hph_wasm.specs.Configuration.{Label, Frame, Configuration, Running, Calling, Trapped, Stuck, Ended}
-use Rattle.hph_wasm.specs.Place.{size_outside, trap_at}
+use Rattle.hph_wasm.specs.Configuration.{Label}
+use Rattle.hph_wasm.specs.Place.{size_outside}
 use Rattle.hph_wasm.specs.Opcodes.{Opcode, Of, EndOfCode, instr_opcodes, opcodes}
 use Rattle.hph_wasm.specs.Standing.{IsShown, Outside, Stands}
 use Rattle.hph_wasm.proofs.OpcodeLists.{opcodes-length}

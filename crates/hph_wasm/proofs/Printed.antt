@@ -1,9 +1,8 @@
 -- What a host has printed to a sink.
-use Rattle.std.proofs.Common.{◌≡◌, ◌∙◌, ℕ, suc, List, [], ◌∷◌, ◌++◌, append_assoc, Option, Some, None, length, take, refl, sym, ap}
-use Rattle.hph_src.specs.declared.sink.PutAnswer.{PutAnswer}
+use Rattle.std.proofs.Common.{◌≡◌, ◌∙◌, ℕ, List, ◌++◌, append_assoc, Option, Some, None, length, take, refl, sym, ap}
 use Rattle.hph_src.specs.declared.sink.PutAnswer.TheVariants as put_answer
-use Rattle.hph_src.specs.Sink.{grown_by, Grows}
-use Rattle.hph_wasm.specs.HostAnswers.{HasPrinted, PutsArePrinted}
+use Rattle.hph_src.specs.Sink.{grown_by}
+use Rattle.hph_wasm.specs.HostAnswers.{PutsArePrinted}
 use Rattle.hph_wasm.proofs.Obstacles.{take-all}
 
 -- What grows twice grows by both.

@@ -16,7 +16,7 @@ use Rattle.hph_wasm.specs.Instantiation.{empty_table}
 use Rattle.hph_wasm.specs.Outcome.{End, Done, More, Trap}
 use Rattle.hph_wasm.specs.Configuration.{Goes, Host}
 use Rattle.hph_wasm.specs.Run.{wasm, invoked}
-use Rattle.hph_wasm.specs.Php1.{php1, PhpStop}
+use Rattle.hph_wasm.proofs.Printer.{printer, PrinterStop}
 
 -- A module with nothing in it.
 abbrev pub nothing : Module
@@ -48,8 +48,8 @@ program main other = record nothing {
 }
 
 -- How a run of main stands after so many reductions.
-abbrev after : ℕ → List Instr → End PhpStop
-after n main = (wasm php1 [] (program main []) n).end
+abbrev after : ℕ → List Instr → End PrinterStop
+after n main = (wasm printer [] (program main []) n).end
 
 -- Blocks by their instructions.
 abbrev none : BlockType
@@ -153,10 +153,10 @@ called : after 5 (Call 1 ∷ []) ≡ Done
 called = refl
 
 -- The second of the two enters the function.
-before_entry : invoked php1 [] (program (Call 1 ∷ []) []) 2 ≡ 0 ∷ []
+before_entry : invoked printer [] (program (Call 1 ∷ []) []) 2 ≡ 0 ∷ []
 before_entry = refl
 
-at_entry : invoked php1 [] (program (Call 1 ∷ []) []) 3 ≡ 0 ∷ 1 ∷ []
+at_entry : invoked printer [] (program (Call 1 ∷ []) []) 3 ≡ 0 ∷ 1 ∷ []
 at_entry = refl
 
 -- So is a call through the table.
@@ -185,7 +185,7 @@ trap_in_second_branch : after 4 (zero_const ∷ if_else_of Nop Unreachable ∷ [
 trap_in_second_branch = refl
 
 -- It is in the function that runs.
-trap_in_other : (wasm php1 [] (program (Call 1 ∷ []) (one ∷ zero_const ∷ Binary I32 (Div Signed) ∷ [])) 6).end ≡ Trap 1 2
+trap_in_other : (wasm printer [] (program (Call 1 ∷ []) (one ∷ zero_const ∷ Binary I32 (Div Signed) ∷ [])) 6).end ≡ Trap 1 2
 unfolding binary quotient
 trap_in_other = refl
 
@@ -213,7 +213,7 @@ unfolding loaded
 past_the_end = refl
 
 -- A host whose functions all print 7 and give nothing.
-abbrev bell : Host (List ℕ) PhpStop
+abbrev bell : Host (List ℕ) PrinterStop
 bell = record { row = λ module_name name ty. Some 0; effect = λ row output arguments memory. Goes (output ++ 7 ∷ []) None; output = λ output. output }
 
 -- Where main is an import, entering it is the whole call.

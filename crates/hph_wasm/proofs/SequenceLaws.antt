@@ -1,5 +1,5 @@
 -- Sequences of instructions, and what is taken from them.
-use Rattle.std.proofs.Common.{◌≡◌, ◌≤◌, ℕ, zero, suc, ◌+◌, List, [], ◌∷◌, ◌++◌, length, take, drop, refl, sym, ap, subst, ◌∙◌, arith, Option, Some, None}
+use Rattle.std.proofs.Common.{◌≡◌, ◌≤◌, ℕ, zero, suc, List, [], ◌∷◌, ◌++◌, length, take, drop, refl, sym, ap, subst, ◌∙◌, arith, Option, Some, None}
 use mathlib.Core.List.{reverse_aux}
 use Rattle.hph_wasm.specs.declared.instr.Instr.{Instr}
 use Rattle.hph_wasm.specs.declared.types.ValType.{ValType}

@@ -13,7 +13,7 @@ use Rattle.hph_wasm.specs.ModuleValidity.{IsValidOutside, IsValid}
 use Rattle.hph_wasm.specs.Faults.{BodyBegins, IsFirstFault, IsFirstInvalid}
 use Rattle.hph_wasm.specs.Integers.{binary, quotient, signed}
 use Rattle.hph_wasm.specs.Outcome.{Trap}
-use Rattle.hph_wasm.specs.Php1.{php1}
+use Rattle.hph_wasm.proofs.Printer.{printer}
 use Rattle.hph_wasm.specs.Run.{wasm, IsFirstUnlinked}
 use Rattle.hph_wasm.proofs.RunExamples.{nothing}
 
@@ -73,7 +73,7 @@ stray_is_valid = record {
 }
 
 -- The division is opcode 2 of function 0.
-stray_traps : (wasm php1 [] (with_main divides) 4).end ≡ Trap 0 2
+stray_traps : (wasm printer [] (with_main divides) 4).end ≡ Trap 0 2
 unfolding binary quotient signed
 stray_traps = refl
 
@@ -91,5 +91,5 @@ invalid_at_drop : IsFirstInvalid (with_main (Drop ∷ [])) 0 0
 invalid_at_drop = IsFirstInvalid.in_body 0 0 (main_of (Drop ∷ [])) no_type (outside_is_valid (Drop ∷ [])) refl refl tt first_fault_of_drop
 
 -- Without its export it is unlinked, though it imports nothing.
-not_linked : IsFirstUnlinked php1 (record (with_main divides) { exports = [] }) 0
+not_linked : IsFirstUnlinked printer (record (with_main divides) { exports = [] }) 0
 not_linked = (tt, inr (refl, λ main. (let no : ⊥ = cc in no)))

@@ -11,7 +11,7 @@ use Rattle.hph_wasm.specs.declared.module.Module.{Module}
 use Rattle.hph_wasm.specs.Validity.{IsBody}
 use Rattle.hph_wasm.specs.Faults.{BodyBegins, IsFirstFault}
 use Rattle.hph_wasm.specs.Instantiation.{IsFirstMisfit}
-use Rattle.hph_wasm.specs.Php1.{php1}
+use Rattle.hph_wasm.proofs.Printer.{printer}
 use Rattle.hph_wasm.specs.Run.{IsFirstUnlinked}
 use Rattle.hph_wasm.proofs.RunExamples.{nothing, one}
 
@@ -90,11 +90,11 @@ past_the_table : IsFirstMisfit (with_segments_at 1 65537) 0
 past_the_table = (_, refl, (λ within. omega (arith, within)), tt)
 
 -- No host has a memory.
-imports_a_memory : IsFirstUnlinked php1 (record nothing {
+imports_a_memory : IsFirstUnlinked printer (record nothing {
   imports = record { «module» = codes "php1"; name = codes "memory"; desc = import_desc.Memory (record { min = 1; max = None }) } ∷ [];
 }) 0
 imports_a_memory = (tt, inl (_, refl, λ has. has))
 
 -- Where nothing is imported, a main that isn't there has number 0.
-has_no_main : IsFirstUnlinked php1 nothing 0
+has_no_main : IsFirstUnlinked printer nothing 0
 has_no_main = (tt, inr (refl, λ main. (let no : ⊥ = cc in no)))

@@ -3,7 +3,6 @@ use Rattle.std.specs.Prelude.{◌≡◌, List, [], ◌∷◌, ◌++◌, Some, ma
 use Rattle.hph_wasm.specs.declared.instr.Instr.{Instr}
 use Rattle.hph_wasm.specs.declared.types.ValType.{ValType}
 use Rattle.hph_wasm.specs.declared.types.FuncType.{FuncType}
-use Rattle.hph_wasm.specs.declared.value.Value.{Value}
 use Rattle.hph_wasm.specs.declared.module.Module.{Module}
 use Rattle.hph_wasm.specs.Values.{types}
 use Rattle.hph_wasm.specs.Functions.{func_type, globals}

@@ -34,5 +34,4 @@ pub mod Ending
 pub mod Fitting
 pub mod Safety
 pub mod HostAnswers
-pub mod Php1
 pub mod Agrees

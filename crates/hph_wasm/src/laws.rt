@@ -16,28 +16,8 @@ ghost use Rattle.hph_wasm.specs.Agrees.{IsRun, Follows, Agrees};
 ghost use Rattle.hph_wasm.specs.Rewriting.{StepsAreRewritings, TrapsAreByRule, RewritesOneWay};
 ghost use Rattle.hph_wasm.specs.Ending.{EndsLeaveValues, StopsAreReplies, StuckIsFinal};
 ghost use Rattle.hph_wasm.specs.HostAnswers.{ResultsFit, PutsArePrinted};
-ghost use Rattle.hph_wasm.specs.Php1.{php1, PhpStop};
 
 use crate::host::AnyHost;
-
-/// The host php1 of specs/Php1.antt.
-#[derive(Clone, Copy, Debug)]
-pub struct Php1;
-
-impl AnyHost for Php1 {
-    ghost use Rattle.std.specs.Prelude.{List, ℕ, []};
-    ghost use Rattle.hph_wasm.specs.Php1.{php1, PhpStop};
-
-    ghost State = { List ℕ };
-
-    ghost Stop = { PhpStop };
-
-    ghost meaning = { php1 };
-
-    ghost state = { λ h. [] };
-
-    ghost faults = { λ h. 0 };
-}
 
 /// A block's opcodes and its validity, by the list of the instructions inside.
 pub fn blocks_are_sequences()
@@ -168,20 +148,4 @@ pub fn runs_fit<H: AnyHost>()
 pub fn never_stuck<H: AnyHost>()
     ensures { (host : Host H.State H.Stop) (state : H.State) (m : Module) →
         IsValid m → IsLinked host m → ResultsFit host → IsNeverStuck host state m }
-{}
-
-/// On the host php1 a run that has ended stays so, and output only grows.
-pub fn php1_runs()
-    ensures { (m : Module) → IsRun (wasm php1 [] m) }
-{}
-
-/// A module that follows a program on the host php1 does what the program does, and nothing else.
-pub fn php1_both_directions()
-    ensures { (m : Module) (program : ℕ → Outcome PhpStop) (cost : ℕ → ℕ) →
-        Follows program (wasm php1 [] m) cost → Agrees program (wasm php1 [] m) cost }
-{}
-
-/// On the host php1 there is always a rule to apply in a run of a valid module.
-pub fn php1_never_stuck()
-    ensures { (m : Module) → IsValid m → IsLinked php1 m → IsNeverStuck php1 [] m }
 {}

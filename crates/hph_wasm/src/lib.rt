@@ -27,12 +27,11 @@ pub use format::{
 pub use host::{AnyHost, Host, HostAnswer};
 pub use instr::{Binary, Comparison, Instr, MemArg, NarrowLoad, NarrowStore, Sign, Unary};
 pub use laws::{
-    Php1, blocks_are_entered, blocks_are_sequences, both_directions, empty_labels_are_left,
+    blocks_are_entered, blocks_are_sequences, both_directions, empty_labels_are_left,
     ends_are_by_rule, entered_laws, first_faults, ifs_are_entered, ifs_are_sequences,
     loops_are_entered, loops_are_sequences, never_stuck, one_obstacle_is_first, one_rule_applies,
-    php1_both_directions, php1_never_stuck, php1_runs, puts_are_printed, reductions_in_turn,
-    run_laws, runs_fit, runs_stand, steps_are_rewritings, stuck_runs_have_no_rule,
-    traps_are_at_opcodes,
+    puts_are_printed, reductions_in_turn, run_laws, runs_fit, runs_stand, steps_are_rewritings,
+    stuck_runs_have_no_rule, traps_are_at_opcodes,
 };
 pub use locals::{Locals, RunOfLocals};
 pub use module::{Element, Export, ExportDesc, Func, Global, Import, ImportDesc, Module, Segment};

@@ -1,7 +1,8 @@
 use Rattle.std.proofs.Common.{sym, subst, arith}
 use Rattle.std.proofs.lemmas.Result.{IfOk-weaker}
 use Rattle.hph_wasm.specs.Spelling.{IsWritable}
-use Rattle.hph_wasm.specs.Php1.{php1}
+use Rattle.hph_effects.specs.Hosts.{Serving, empty_host}
+use Rattle.hph_effects.specs.Effects.{php1}
 use Rattle.hph_lowm.specs.Layout.{module_of}
 use Rattle.hph_lowm.specs.Compiles.{Compiles}
 use Rattle.hph_lowm.specs.Program.{php, cost}
@@ -20,6 +21,6 @@ returns-clause-compiles c = λ nodes enough.
       valid = layout_is_valid texts (omega (arith, c.requires));
       linked = layout_is_linked texts;
       fits = layout_fits texts;
-      agrees = c.php1_both_directions.ensures (module_of texts) (php texts) (cost nodes) (layout_follows (c.reductions_in_turn.ensures php1) texts nodes enough);
+      agrees = c.php1_both_directions.ensures (Serving empty_host) (module_of texts) (php texts) (cost nodes) (layout_follows (c.reductions_in_turn.ensures php1) texts nodes enough);
     } in
     IfOk-weaker c.laid_out.result _ _ (λ m same. subst (Compiles texts nodes) (sym same) compiles) c.laid_out.ensures

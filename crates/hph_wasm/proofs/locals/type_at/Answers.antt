@@ -1,4 +1,4 @@
-use Rattle.std.proofs.Common.{leb, rules, ap, sym, ◌∙◌}
+use Rattle.std.proofs.Common.{leb, rules, ap, ◌∙◌}
 use Rattle.std.specs.Option.{option_map}
 use Rattle.std.proofs.lemmas.List.Sorted.{IsPartitionPoint-from_clause, IsPartitionedBy-leb}
 use Rattle.hph_wasm.proofs.LocalLaws.{found_first, rising_by}
