@@ -19,3 +19,4 @@ pub mod SourceLaw
 pub mod SourceTokens
 pub mod CodePlaces
 pub mod TokenPlaces
+pub mod DeclaredPlaces
