@@ -1,7 +1,6 @@
 -- The declarations of a tree begin no more pieces of code and static variables at an offset than the tree has there.
-use Rattle.std.specs.Prelude.{◌≡◌, ◌≤◌, ℕ, suc, ◌+◌, Bool, true, false, List, [], ◌∷◌, ◌++◌, map, flat_map, Option, None, Some}
-use Rattle.std.specs.Option.{option_map_or}
-use Rattle.std.proofs.Common.{arith, refl, ap, sym, ◌∙◌, subst}
+use Rattle.std.specs.Prelude.{◌≡◌, ◌≤◌, ℕ, ◌+◌, Bool, true, false, List, [], ◌∷◌, ◌++◌, map, flat_map, Option, None, Some}
+use Rattle.std.proofs.Common.{arith, refl, ap, subst}
 use Rattle.hph_ast.specs.declared.function.Function.{Function, roll-Function, out-Function, out-roll-Function}
 use Rattle.hph_ast.specs.declared.class.Class.{Class, roll-Class, out-Class, out-roll-Class}
 use Rattle.hph_ast.specs.declared.class.ConstantItem.{ConstantItem}
@@ -9,7 +8,7 @@ use Rattle.hph_ast.specs.declared.class.Modifiers.{Modifiers}
 use Rattle.hph_ast.specs.declared.token.At.{At}
 use Rattle.hph_ast.specs.declared.function.DeclaredType.{DeclaredType}
 use Rattle.hph_ast.specs.declared.class.PropertyItem.{PropertyItem}
-use Rattle.hph_ast.specs.declared.class.Member.{Member, roll-Member, out-Member, out-roll-Member}
+use Rattle.hph_ast.specs.declared.class.Member.{Member, roll-Member, out-roll-Member}
 use Rattle.hph_ast.specs.declared.class.Member.TheOpen.{Member-F, Statement-F, Class-F, Function-F, Case-F, ElseIf-F}
 use Rattle.hph_ast.specs.declared.class.Member.TheFolds.{ind-Statement, map-Member, map-Statement, map-Class, map-Function, map-Case, map-ElseIf, para-Member, para-Class, para-Function, para-Case, para-ElseIf, para-roll-Member, para-roll-Statement, para-roll-Class, para-roll-Function, para-roll-Case, para-roll-ElseIf}
 use Rattle.hph_ast.specs.declared.stmt.Statement.{Statement, roll-Statement}
@@ -180,8 +179,13 @@ module _ (offset : ℕ) where
       + weights (flat_map (λ (m : WithMember). m.1 class) (map (λ (t : Member). (t, in_member t)) (map (λ (e : HeldMember). e.0) ms)))
       ≤ total (map member_placed (map (λ (e : HeldMember). e.0) ms))
   members_hold class [] = omega arith
-  members_hold class (m ∷ ms) = omega (arith, m.1 class, members_hold class ms, total_append weight (in_member m.0 class)
-      (flat_map (λ (m : WithMember). m.1 class) (map (λ (t : Member). (t, in_member t)) (map (λ (e : HeldMember). e.0) ms))))
+  members_hold class (m ∷ ms) = omega (
+    arith,
+    m.1 class,
+    members_hold class ms,
+    total_append weight (in_member m.0 class)
+        (flat_map (λ (m : WithMember). m.1 class) (map (λ (t : Member). (t, in_member t)) (map (λ (e : HeldMember). e.0) ms))),
+  )
 
   statics_hold : (vs : List StaticVariable) → weights (map (λ (v : StaticVariable). a_static v.name.start) vs) ≤ total_of (place.static_here offset) vs
   statics_hold [] = omega arith
@@ -196,9 +200,12 @@ module _ (offset : ℕ) where
   if_found : (body : Statement) (more : List HeldBranch) (other : Found) →
       weights (declarations_in body ++ (flat_map (λ (s : With ElseIf). s.1) (map (λ (t : ElseIf). (t, in_branch t)) (map (λ (e : HeldBranch). e.0) more)) ++ other))
       ≡ weights (declarations_in body) + (weights (flat_map (λ (s : With ElseIf). s.1) (map (λ (t : ElseIf). (t, in_branch t)) (map (λ (e : HeldBranch). e.0) more))) + weights other)
-  if_found body more other = omega (arith, total_append weight (declarations_in body)
-      (flat_map (λ (s : With ElseIf). s.1) (map (λ (t : ElseIf). (t, in_branch t)) (map (λ (e : HeldBranch). e.0) more)) ++ other),
-      total_append weight (flat_map (λ (s : With ElseIf). s.1) (map (λ (t : ElseIf). (t, in_branch t)) (map (λ (e : HeldBranch). e.0) more))) other)
+  if_found body more other = omega (
+    arith,
+    total_append weight (declarations_in body)
+        (flat_map (λ (s : With ElseIf). s.1) (map (λ (t : ElseIf). (t, in_branch t)) (map (λ (e : HeldBranch). e.0) more)) ++ other),
+    total_append weight (flat_map (λ (s : With ElseIf). s.1) (map (λ (t : ElseIf). (t, in_branch t)) (map (λ (e : HeldBranch). e.0) more))) other,
+  )
 
   statement_level : (y : Statement-F HeldMember HeldStatement HeldClass HeldFunction HeldCase HeldBranch) → weights (found_at (only_statement y)) ≤ place.placed_at offset (only_statement y)
   statement_level (Statement-F.Block at body) = statements_hold body
@@ -226,8 +233,12 @@ module _ (offset : ℕ) where
   -- ---- whole trees
 
   statement_made : (x : Statement-F Member Statement Class Function Case ElseIf) (y : Statement-F HeldMember HeldStatement HeldClass HeldFunction HeldCase HeldBranch) → only_statement y ≡ x → StatementHolds (roll-Statement x)
-  statement_made x y is = subst (λ d. StatementHolds (roll-Statement d)) is (omega (arith, statement_level y,
-      ap weights (declarations_in_rolled (only_statement y)), place.placed_rolled offset (only_statement y)))
+  statement_made x y is = subst (λ d. StatementHolds (roll-Statement d)) is (omega (
+    arith,
+    statement_level y,
+    ap weights (declarations_in_rolled (only_statement y)),
+    place.placed_rolled offset (only_statement y),
+  ))
 
   -- what a member has
   constants_alone : (at : At) (mods : Modifiers) (items : List ConstantItem) → constants_in (roll-Member (Member-F.Constants at mods items)) ≡ items
@@ -261,36 +272,65 @@ module _ (offset : ℕ) where
   methods_have_none at mods f = (simp (out-roll-Member), simp (out-roll-Member))
 
   member_level : (y : Member-F HeldMember HeldStatement HeldClass HeldFunction HeldCase HeldBranch) → MemberHolds (roll-Member (only_member y))
-  member_level (Member-F.Constants at mods items) class = omega (arith, ap (total_of (place.constant_here offset)) (constants_alone at mods items),
-      ap (total_of (place.property_here offset)) (no_properties at mods items),
-      ap (λ f. weights (f class)) (in_member_rolled (Member-F.Constants at mods items)), place.member_placed_rolled offset (Member-F.Constants at mods items))
-  member_level (Member-F.Properties at mods ty items) class = omega (arith, ap (total_of (place.constant_here offset)) (no_constants at mods ty items),
-      properties_few at mods ty items, ap (λ f. weights (f class)) (in_member_rolled (Member-F.Properties at mods ty items)),
-      place.member_placed_rolled offset (Member-F.Properties at mods ty items))
-  member_level (Member-F.Method at mods f) class = omega (arith, ap (total_of (place.constant_here offset)) (methods_have_none at mods f.0).0,
-      ap (total_of (place.property_here offset)) (methods_have_none at mods f.0).1, f.1,
-      ap (λ g. weights (g class)) (in_member_rolled (Member-F.Method at mods f.0)), place.member_placed_rolled offset (Member-F.Method at mods f.0))
+  member_level (Member-F.Constants at mods items) class = omega (
+    arith,
+    ap (total_of (place.constant_here offset)) (constants_alone at mods items),
+    ap (total_of (place.property_here offset)) (no_properties at mods items),
+    ap (λ f. weights (f class)) (in_member_rolled (Member-F.Constants at mods items)),
+    place.member_placed_rolled offset (Member-F.Constants at mods items),
+  )
+  member_level (Member-F.Properties at mods ty items) class = omega (
+    arith,
+    ap (total_of (place.constant_here offset)) (no_constants at mods ty items),
+    properties_few at mods ty items,
+    ap (λ f. weights (f class)) (in_member_rolled (Member-F.Properties at mods ty items)),
+    place.member_placed_rolled offset (Member-F.Properties at mods ty items),
+  )
+  member_level (Member-F.Method at mods f) class = omega (
+    arith,
+    ap (total_of (place.constant_here offset)) (methods_have_none at mods f.0).0,
+    ap (total_of (place.property_here offset)) (methods_have_none at mods f.0).1,
+    f.1,
+    ap (λ g. weights (g class)) (in_member_rolled (Member-F.Method at mods f.0)),
+    place.member_placed_rolled offset (Member-F.Method at mods f.0),
+  )
 
   member_made : (x : Member-F Member Statement Class Function Case ElseIf) (y : Member-F HeldMember HeldStatement HeldClass HeldFunction HeldCase HeldBranch) → only_member y ≡ x → MemberHolds (roll-Member x)
   member_made x y is = subst (λ d. MemberHolds (roll-Member d)) is (member_level y)
 
   class_made : (x : Class-F Member Statement Class Function Case ElseIf) (y : Class-F HeldMember HeldStatement HeldClass HeldFunction HeldCase HeldBranch) → only_class y ≡ x → ClassHolds (roll-Class x)
-  class_made x y is = subst (λ d. ClassHolds (roll-Class d)) is (omega (arith, members_hold y.at.start y.members,
-      ap (λ (d : Class-F Member Statement Class Function Case ElseIf). here d.at.start + total_of own d.members) (out-roll-Class (only_class y)),
-      ap weights (in_class_rolled (only_class y)), place.class_placed_rolled offset (only_class y)))
+  class_made x y is = subst (λ d. ClassHolds (roll-Class d)) is (omega (
+    arith,
+    members_hold y.at.start y.members,
+    ap (λ (d : Class-F Member Statement Class Function Case ElseIf). here d.at.start + total_of own d.members) (out-roll-Class (only_class y)),
+    ap weights (in_class_rolled (only_class y)),
+    place.class_placed_rolled offset (only_class y),
+  ))
 
   function_made : (x : Function-F Member Statement Class Function Case ElseIf) (y : Function-F HeldMember HeldStatement HeldClass HeldFunction HeldCase HeldBranch) → only_function y ≡ x → FunctionHolds (roll-Function x)
-  function_made x y is = subst (λ d. FunctionHolds (roll-Function d)) is (omega (arith, statements_hold y.body,
-      ap (λ (d : Function-F Member Statement Class Function Case ElseIf). here d.at.start) (out-roll-Function (only_function y)),
-      ap weights (in_function_rolled (only_function y)), place.function_placed_rolled offset (only_function y)))
+  function_made x y is = subst (λ d. FunctionHolds (roll-Function d)) is (omega (
+    arith,
+    statements_hold y.body,
+    ap (λ (d : Function-F Member Statement Class Function Case ElseIf). here d.at.start) (out-roll-Function (only_function y)),
+    ap weights (in_function_rolled (only_function y)),
+    place.function_placed_rolled offset (only_function y),
+  ))
 
   case_made : (x : Case-F Member Statement Class Function Case ElseIf) (y : Case-F HeldMember HeldStatement HeldClass HeldFunction HeldCase HeldBranch) → only_case y ≡ x → CaseHolds (roll-Case x)
-  case_made x y is = subst (λ d. CaseHolds (roll-Case d)) is (omega (arith, statements_hold y.body,
-      ap weights (in_case_rolled (only_case y)), place.case_placed_rolled offset (only_case y)))
+  case_made x y is = subst (λ d. CaseHolds (roll-Case d)) is (omega (
+    arith,
+    statements_hold y.body,
+    ap weights (in_case_rolled (only_case y)),
+    place.case_placed_rolled offset (only_case y),
+  ))
 
   branch_made : (x : ElseIf-F Member Statement Class Function Case ElseIf) (y : ElseIf-F HeldMember HeldStatement HeldClass HeldFunction HeldCase HeldBranch) → only_branch y ≡ x → BranchHolds (roll-ElseIf x)
-  branch_made x y is = subst (λ d. BranchHolds (roll-ElseIf d)) is (omega (arith, y.body.1,
-      ap weights (in_branch_rolled (only_branch y)), place.branch_placed_rolled offset (only_branch y)))
+  branch_made x y is = subst (λ d. BranchHolds (roll-ElseIf d)) is (omega (
+    arith,
+    y.body.1,
+    ap weights (in_branch_rolled (only_branch y)),
+    place.branch_placed_rolled offset (only_branch y),
+  ))
 
   pub declared_few : (x : Statement) → weights (declarations_in x) ≤ placed x
   declared_few = ind-Statement MemberHolds StatementHolds ClassHolds FunctionHolds CaseHolds BranchHolds

@@ -7,7 +7,7 @@ pub fn well_formed_is_lowerable()
     ensures { WellFormedIsLowerable }
 {}
 
-/// A program of a source tree is well-formed, where its places are apart and its names agree.
+/// A program of a source tree is well-formed, where its names agree.
 pub fn sources_are_well_formed()
     ensures { SourcesAreWellFormed }
 {}
