@@ -1,12 +1,10 @@
 //! When a program may be lowered, told by folds over its trees as they are, with their sites numbered. What stands behind the
 //! front end requires `IsLowerable` of specs/ and nothing else of a program.
 //!
-//! Two laws lead there from a source tree. A program of a source tree whose names agree is well-formed: its tokens are bounded by its
-//! bytes (proofs/SourceTokens), and what begins at an offset of a tree by the tokens that begin there (proofs/PlacesApart). A
-//! well-formed program may be lowered: the tokens of a file tell of its tree (proofs/SpelledExpressions, SpelledStatements), and a fold
-//! that doesn't look at the numbers of sites tells the same when they are numbered (proofs/Numbering, StatementNumbering).
+//! A well-formed program may be lowered: the tokens of a file tell of its tree (proofs/SpelledExpressions, SpelledStatements), and a
+//! fold that doesn't look at the numbers of sites tells the same when they are numbered (proofs/Numbering, StatementNumbering).
 #![tactic(auto)]
 
 mod laws;
 
-pub use laws::{sources_are_well_formed, well_formed_is_lowerable};
+pub use laws::well_formed_is_lowerable;

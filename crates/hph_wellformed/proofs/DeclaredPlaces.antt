@@ -17,7 +17,7 @@ use Rattle.hph_ast.specs.declared.stmt.ElseIf.{ElseIf, roll-ElseIf}
 use Rattle.hph_ast.specs.declared.stmt.StaticVariable.{StaticVariable}
 use Rattle.hph_php.specs.Cost.{total, total_of}
 use Rattle.hph_php.specs.Declarations.{Declaration, a_function, a_class, a_method, a_static, Found, With, WithMember, declarations_in, member_found, statement_found, class_found, function_found, case_found, else_if_found, constants_in, properties_in}
-use Rattle.hph_lowerable.proofs.CodePlaces as place
+use Rattle.hph_wellformed.proofs.CodePlaces as place
 
 -- ---- the declarations in each part
 

@@ -15,14 +15,14 @@ use Rattle.hph_program.specs.Sources.{path_named, includes_in, included}
 use Rattle.hph_program.specs.Program.{Waves, last, wave}
 use Rattle.hph_program.specs.WellFormed.{IsSpelled, IncludeEachOther, held_bytes}
 use Rattle.hph_program.proofs.Closed.{waves_are_closed}
-use Rattle.hph_lowerable.specs.Laws.{SourcesAreWellFormed}
+use Rattle.hph_wellformed.specs.Laws.{SourcesAreWellFormed}
 use Rattle.hph_lowerable.proofs.Numbering.{Kept, each_kept}
 use Rattle.hph_lowerable.proofs.StatementFacts.{statement_includes_kept}
 use Rattle.hph_lowerable.proofs.Chains.{AreInts}
-use Rattle.hph_lowerable.proofs.Sources.{AreSources, sources_of}
-use Rattle.hph_lowerable.proofs.SourceInts.{tokens_are_ints}
-use Rattle.hph_lowerable.proofs.PlacesApart.{places_are_apart}
-use Rattle.hph_lowerable.proofs.SourceTokens.{tokens_are_few}
+use Rattle.hph_wellformed.proofs.Sources.{AreSources, sources_of}
+use Rattle.hph_wellformed.proofs.SourceInts.{tokens_are_ints}
+use Rattle.hph_wellformed.proofs.PlacesApart.{places_are_apart}
+use Rattle.hph_wellformed.proofs.SourceTokens.{tokens_are_few}
 use Rattle.hph_lowerable.proofs.WellFormedLaw.{sum_is}
 use Rattle.hph_php.specs.Cost.{total_of}
 

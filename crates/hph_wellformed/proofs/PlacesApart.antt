@@ -22,11 +22,11 @@ use Rattle.hph_program.specs.Sources.{IsSource}
 use Rattle.hph_program.specs.Program.{IsProgramOf}
 use Rattle.hph_program.specs.WellFormed.{HasPlacesApart}
 use Rattle.hph_lowerable.proofs.StatementFacts.{total_kept}
-use Rattle.hph_lowerable.proofs.CodePlaces as place
-use Rattle.hph_lowerable.proofs.DeclaredPlaces as declared
-use Rattle.hph_lowerable.proofs.DeclaredPlaces.{total_append}
-use Rattle.hph_lowerable.proofs.TokenPlaces.{starts_once}
-use Rattle.hph_lowerable.proofs.Sources.{AreSources, sources_of}
+use Rattle.hph_wellformed.proofs.CodePlaces as place
+use Rattle.hph_wellformed.proofs.DeclaredPlaces as declared
+use Rattle.hph_wellformed.proofs.DeclaredPlaces.{total_append}
+use Rattle.hph_wellformed.proofs.TokenPlaces.{starts_once}
+use Rattle.hph_wellformed.proofs.Sources.{AreSources, sources_of}
 
 -- ---- sites that are no more than once in a list
 

@@ -15,8 +15,8 @@ use Rattle.hph_ast.specs.Lexical.{Fault, Turn, Next, Answer, Comes, InCode, InIn
 use Rattle.hph_ast.specs.Lexical as x
 use Rattle.hph_ast.specs.Tokens.{Reading, State, Lexes, SpellsTokens, tokens_before}
 use Rattle.hph_ast.specs.Tokens as t
-use Rattle.hph_lowerable.proofs.CodePlaces as place
-use Rattle.hph_lowerable.proofs.SourceTokens.{mark_is, cast_takes, front_some, name_begins, last_true}
+use Rattle.hph_wellformed.proofs.CodePlaces as place
+use Rattle.hph_wellformed.proofs.SourceTokens.{mark_is, cast_takes, front_some, name_begins, last_true}
 
 module _ (offset : ℕ) where
   abbrev here : ℕ → ℕ
