@@ -14,8 +14,3 @@ pub mod WellFormedLaw
 pub mod RefusedLevels
 pub mod LowerableExamples
 pub mod GoodProgram
-pub mod SourceInts
-pub mod SourceLaw
-pub mod SourceTokens
-pub mod CodePlaces
-pub mod TokenPlaces

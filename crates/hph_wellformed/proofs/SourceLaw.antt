@@ -1,4 +1,4 @@
--- A program of a source tree is well-formed, where its names agree, its places are apart and its tokens are few.
+-- A program of a source tree is well-formed, where its names agree.
 use Rattle.std.specs.Prelude.{◌≡◌, ◌≤◌, ◌+◌, ℕ, suc, List, [], ◌∷◌, ◌++◌, length, map, flat_map, filter_map, fold, All, bytes_eq}
 use Rattle.std.specs.List.{AllZip, AllByRecursion, list_any}
 use Rattle.std.proofs.Common.{arith, refl, ap, sym, ◌∙◌, subst, length-append}
@@ -11,41 +11,22 @@ use Rattle.hph_php.specs.Declarations.{path_of}
 use Rattle.hph_php.specs.Includes.{normalised, folder}
 use Rattle.hph_program.specs.Sites.{Numbered, each, statement, file_tree, numbered_trees, numbered_files}
 use Rattle.hph_program.specs.Sites as sites
-use Rattle.hph_program.specs.Sources.{IsSource, path_named, includes_in, included}
+use Rattle.hph_program.specs.Sources.{path_named, includes_in, included}
 use Rattle.hph_program.specs.Program.{Waves, last, wave}
 use Rattle.hph_program.specs.WellFormed.{IsSpelled, IncludeEachOther, held_bytes}
 use Rattle.hph_program.proofs.Closed.{waves_are_closed}
-use Rattle.hph_lowerable.specs.Laws.{SourcesAreWellFormed}
+use Rattle.hph_wellformed.specs.Laws.{SourcesAreWellFormed}
 use Rattle.hph_lowerable.proofs.Numbering.{Kept, each_kept}
 use Rattle.hph_lowerable.proofs.StatementFacts.{statement_includes_kept}
 use Rattle.hph_lowerable.proofs.Chains.{AreInts}
-use Rattle.hph_lowerable.proofs.SourceInts.{tokens_are_ints}
-use Rattle.hph_lowerable.proofs.SourceTokens.{tokens_are_few}
+use Rattle.hph_wellformed.proofs.Sources.{AreSources, sources_of}
+use Rattle.hph_wellformed.proofs.SourceInts.{tokens_are_ints}
+use Rattle.hph_wellformed.proofs.PlacesApart.{places_are_apart}
+use Rattle.hph_wellformed.proofs.SourceTokens.{tokens_are_few}
 use Rattle.hph_lowerable.proofs.WellFormedLaw.{sum_is}
 use Rattle.hph_php.specs.Cost.{total_of}
 
--- ---- files that are sources
-
-abbrev IsAnySource : Files → File → Type 0
-IsAnySource files f = (path : List ℕ) × IsSource files path f
-
-abbrev AreSources : Files → List File → Type 0
-AreSources files [] = Unit {0}
-AreSources files (f ∷ fs) = IsAnySource files f × AreSources files fs
-
-of_wave : (files : Files) (paths : List (List ℕ)) (fs : List File) → AllZip (IsSource files) paths fs → AreSources files fs
-of_wave files [] [] a = tt
-of_wave files [] (f ∷ fs) a = absurd a
-of_wave files (p ∷ ps) [] a = absurd a
-of_wave files (p ∷ ps) (f ∷ fs) a = ((p, a.0), of_wave files ps fs a.1)
-
-both_sources : (files : Files) (fs gs : List File) → AreSources files fs → AreSources files gs → AreSources files (fs ++ gs)
-both_sources files [] gs a b = b
-both_sources files (f ∷ fs) gs a b = (a.0, both_sources files fs gs a.1 b)
-
-all_sources : {files : Files} {read all : List File} {paths : List (List ℕ)} → Waves files read paths all → AreSources files read → AreSources files all
-all_sources last a = a
-all_sources {files} {read} (wave {path = path} {paths = paths} fs here w) a = all_sources w (both_sources files read fs a (of_wave files (path ∷ paths) fs here))
+-- ---- files
 
 -- no file is lost
 more_files : {files : Files} {read all : List File} {paths : List (List ℕ)} → Waves files read paths all → length read ≤ length all
@@ -127,7 +108,7 @@ as_many fs = by_number fs 0
 -- ---- the law
 
 pub sources_are_well_formed : SourcesAreWellFormed
-sources_are_well_formed files main p source places names = record {
+sources_are_well_formed files main p source names = record {
   main = omega (arith, ap length source.numbered, as_many source.sources, some_file files (normalised main) source.sources source.waves);
   few = omega (arith, ap length source.numbered, as_many source.sources, source.limits.few);
   tokens = map (λ (f : File). f.tokens) source.sources;
@@ -150,9 +131,9 @@ sources_are_well_formed files main p source places names = record {
   small = ints files source.sources sources;
   numbered = ap (map (λ (f : File). f.tree)) source.numbered ∙ trees_numbered source.sources 0;
   includes = subst IncludeEachOther (sym source.numbered) (include_each_other source.sources (waves_are_closed files main source.sources source.waves));
-  places = places;
+  places = places_are_apart files main p source;
   names = names;
 }
   where
     sources : AreSources files source.sources
-    sources = all_sources source.waves tt
+    sources = sources_of source.waves

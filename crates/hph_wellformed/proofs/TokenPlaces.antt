@@ -1,6 +1,6 @@
 -- At one offset begins at most one token that a piece of code or a static variable may begin with.
-use Rattle.std.specs.Prelude.{◌≡◌, ℕ, suc, ◌+◌, ◌-◌, ◌*◌, ◌<◌, ◌≤◌, Bool, true, false, ◌&&◌, ◌==◌, List, [], ◌∷◌, ◌++◌, length, drop, Option, None, Some, Result, Ok, Err, if◌then◌else◌, codes}
-use Rattle.std.proofs.Common.{arith, refl, ap, sym, ◌∙◌, subst, ◌⊎◌, inl, inr}
+use Rattle.std.specs.Prelude.{◌≡◌, ℕ, suc, ◌+◌, ◌-◌, ◌<◌, ◌≤◌, Bool, true, false, ◌==◌, List, [], ◌∷◌, ◌++◌, length, drop, Result, Ok, Err, if◌then◌else◌, codes}
+use Rattle.std.proofs.Common.{arith, refl, ◌⊎◌, inl, inr}
 use Rattle.std.proofs.lemmas.Bool.Decides.{nat_tests}
 use Rattle.hph_ast.specs.declared.token.Token.{Token}
 use Rattle.hph_ast.specs.declared.token.Kind.{Kind}
@@ -9,14 +9,14 @@ use Rattle.hph_ast.specs.declared.token.Mark.TheVariants as m
 use Rattle.hph_ast.specs.declared.keyword.Keyword.{Keyword}
 use Rattle.hph_ast.specs.declared.refusal.Construct.{Construct}
 use Rattle.hph_ast.specs.declared.lexical.Mode.{Mode}
-use Rattle.hph_ast.specs.Bytes.{begins, begins_with, is_letter, is_name_byte, front}
+use Rattle.hph_ast.specs.Bytes.{begins, is_name_byte, front}
 use Rattle.hph_ast.specs.Marks.{cast_length}
 use Rattle.hph_ast.specs.Lexical.{Fault, Turn, Next, Answer, Comes, InCode, InInterpolation, Behind, token, gives, skips, from_table, piece, turn_of}
 use Rattle.hph_ast.specs.Lexical as x
 use Rattle.hph_ast.specs.Tokens.{Reading, State, Lexes, SpellsTokens, tokens_before}
 use Rattle.hph_ast.specs.Tokens as t
-use Rattle.hph_lowerable.proofs.CodePlaces as place
-use Rattle.hph_lowerable.proofs.SourceTokens.{mark_is, cast_takes, front_some, name_begins, last_true}
+use Rattle.hph_wellformed.proofs.CodePlaces as place
+use Rattle.hph_wellformed.proofs.SourceTokens.{mark_is, cast_takes, front_some, name_begins, last_true}
 
 module _ (offset : ℕ) where
   abbrev here : ℕ → ℕ
@@ -145,7 +145,7 @@ module _ (offset : ℕ) where
   behind_sited {at} (x.property {bs} is) =
       let one = front_some (drop 2 bs) (last_true (begins (codes "->") bs) _ is) in
       further (k.Name (front is_name_byte (drop 2 bs))) (2 + at) at (at + (2 + length (front is_name_byte (drop 2 bs)))) (omega arith) (omega arith)
-        (x.property_tokens at (front is_name_byte (drop 2 bs))) (omega arith)
+      (x.property_tokens at (front is_name_byte (drop 2 bs))) (omega arith)
   behind_sited (x.alone a b c) = record { one = omega arith; before = λ h. refl; after = λ h. refl }
 
   -- a token, and those behind it

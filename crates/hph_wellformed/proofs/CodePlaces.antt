@@ -1,6 +1,6 @@
 -- How many pieces of code and static variables of a tree begin at an offset: no more than tokens that can begin one do.
-use Rattle.std.specs.Prelude.{◌≡◌, ℕ, suc, ◌+◌, ◌≤◌, Bool, true, false, ◌==◌, List, [], ◌∷◌, ◌++◌, map, Option, None, Some, if◌then◌else◌}
-use Rattle.std.proofs.Common.{arith, refl, ap, sym, ◌∙◌, subst}
+use Rattle.std.specs.Prelude.{◌≡◌, ℕ, ◌+◌, ◌≤◌, Bool, ◌==◌, List, [], ◌∷◌, ◌++◌, map, Option, None, Some, if◌then◌else◌}
+use Rattle.std.proofs.Common.{arith, refl, ap, sym, subst}
 use Rattle.hph_ast.specs.declared.token.At.{At}
 use Rattle.hph_ast.specs.declared.token.Token.{Token}
 use Rattle.hph_ast.specs.declared.token.Identifier.{Identifier}
@@ -9,7 +9,6 @@ use Rattle.hph_ast.specs.declared.token.Kind.TheVariants as k
 use Rattle.hph_ast.specs.declared.keyword.Keyword.TheVariants as w
 use Rattle.hph_ast.specs.declared.expr.Expr.{Expr}
 use Rattle.hph_ast.specs.declared.function.DeclaredType.{DeclaredType}
-use Rattle.hph_ast.specs.declared.function.Param.{Param}
 use Rattle.hph_ast.specs.declared.function.Function.{Function, roll-Function}
 use Rattle.hph_ast.specs.declared.class.Class.{Class, roll-Class}
 use Rattle.hph_ast.specs.declared.class.Modifiers.{Modifiers}
