@@ -1,11 +1,12 @@
 //! The values of answers.
-ghost use Rattle.std.specs.Prelude.{◌≡◌};
+ghost use Rattle.std.specs.Prelude.{◌≡◌, Err};
 ghost use Rattle.std.specs.Ordering.{is_lt, is_le, is_gt, is_ge};
 ghost use Rattle.hph_php.specs.Comparison.{loose_order};
 ghost use Rattle.hph_php.specs.Conversions.{map_ok};
 ghost use Rattle.hph_php.specs.Operators.{int_of_order};
 ghost use Rattle.hph_php.specs.Values as php;
 ghost use Rattle.hph_value.specs.Shown.{value_of, Tells};
+ghost use Rattle.hph_value.specs.declared.value.Stop.TheVariants.{NoMemory};
 ghost use Rattle.hph_binary.specs.Operands.{unless_strings};
 
 use hph_ops::order;
@@ -16,7 +17,8 @@ use std::cmp::Ordering;
 /// The value of a number.
 #[tactic(auto, using(crate::proofs::Told::shown))]
 pub fn int_answer(number: Result<i64, Fatal>) -> Result<Value, Stop>
-    ensures { Tells result (map_ok php.Int number) }
+    ensures answer { Tells result (map_ok php.Int number) }
+    ensures free { result ≡ Err NoMemory → ⊥ }
 {
     match number {
         Ok(number) => Ok(Value::Int(number)),
@@ -27,7 +29,8 @@ pub fn int_answer(number: Result<i64, Fatal>) -> Result<Value, Stop>
 /// The value of a truth.
 #[tactic(auto, using(crate::proofs::Told::shown))]
 pub fn truth_answer(truth: Result<bool, Fatal>) -> Result<Value, Stop>
-    ensures { Tells result (map_ok php.Boolean truth) }
+    ensures answer { Tells result (map_ok php.Boolean truth) }
+    ensures free { result ≡ Err NoMemory → ⊥ }
 {
     match truth {
         Ok(truth) => Ok(Value::Bool(truth)),
@@ -38,7 +41,8 @@ pub fn truth_answer(truth: Result<bool, Fatal>) -> Result<Value, Stop>
 /// The value of a number of bits. `BadOperand` where both operands are strings.
 #[tactic(auto, using(crate::proofs::Told::shown))]
 pub fn bits_answer(x: &Value, y: &Value, number: Result<i64, Fatal>) -> Result<Value, Stop>
-    ensures { Tells result (unless_strings (value_of x.now) (value_of y.now) (map_ok php.Int number)) }
+    ensures answer { Tells result (unless_strings (value_of x.now) (value_of y.now) (map_ok php.Int number)) }
+    ensures free { result ≡ Err NoMemory → ⊥ }
 {
     match x {
         Value::Str(_) => match y {

@@ -1,10 +1,12 @@
 //! The operators by their codes.
-ghost use Rattle.std.specs.Prelude.{◌≡◌, Ok, not};
+ghost use Rattle.std.specs.Prelude.{◌≡◌, Ok, Err, not, true};
 ghost use Rattle.hph_php.specs.Comparison.{loosely_equal, identical};
 ghost use Rattle.hph_php.specs.Conversions.{map_ok};
 ghost use Rattle.hph_php.specs.Operators as php;
 ghost use Rattle.hph_php.specs.Values.{Boolean};
 ghost use Rattle.hph_value.specs.Shown.{value_of, Tells};
+ghost use Rattle.hph_value.specs.declared.value.Stop.TheVariants.{NoMemory};
+ghost use Rattle.hph_binary.specs.Memory.{may_take_memory};
 
 use crate::answers::{
     bits_answer, greater, greater_equal, int_answer, less, less_equal, spaceship, truth_answer,
@@ -22,7 +24,8 @@ use std::alloc::Global;
 /// `+` of two arrays, by `.`, and by the equality of arrays that hold arrays.
 #[tactic(auto, using(crate::proofs::Told::told))]
 pub fn binary(alloc: Global, op: BinOp, x: &Value, y: &Value) -> Result<Value, Stop>
-    ensures { Tells result (php.binary_of op (value_of x.now) (value_of y.now)) }
+    ensures answer { Tells result (php.binary_of op (value_of x.now) (value_of y.now)) }
+    ensures memory { result ≡ Err NoMemory → may_take_memory op ≡ true }
 {
     match op {
         BinOp::Add => plus(alloc, x, y),

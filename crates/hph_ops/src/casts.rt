@@ -1,9 +1,11 @@
 //! Unary operators and casts (PHP manual, Operators and Type Juggling).
-ghost use Rattle.std.specs.Prelude.{◌≡◌};
+ghost use Rattle.std.specs.Prelude.{◌≡◌, Err, true};
 ghost use Rattle.hph_php.specs.Conversions.{map_ok, to_text};
 ghost use Rattle.hph_php.specs.Operators as php;
 ghost use Rattle.hph_php.specs.Values.{Int, Str};
 ghost use Rattle.hph_value.specs.Shown.{value_of, Tells};
+ghost use Rattle.hph_value.specs.declared.value.Stop.TheVariants.{NoMemory};
+ghost use Rattle.hph_ops.specs.Memory.{may_take_memory};
 
 use crate::numbers::negation;
 use hph_php::{Fatal, UnOp};
@@ -13,7 +15,8 @@ use std::alloc::Global;
 /// The answer that an int or a fatal error is.
 #[tactic(auto, using(crate::proofs::Shown::shown))]
 fn int_answer(number: Result<i64, Fatal>) -> Result<Value, Stop>
-    ensures { Tells result (map_ok Int number) }
+    ensures answer { Tells result (map_ok Int number) }
+    ensures free { result ≡ Err NoMemory → ⊥ }
 {
     match number {
         Ok(number) => Ok(Value::Int(number)),
@@ -35,7 +38,8 @@ fn text_value(alloc: Global, x: &Value) -> Result<Value, Stop>
 /// `~`, of ints alone.
 #[tactic(auto, using(crate::proofs::Shown::shown))]
 fn complement(x: &Value) -> Result<Value, Stop>
-    ensures { Tells result (php.complement (value_of x.now)) }
+    ensures answer { Tells result (php.complement (value_of x.now)) }
+    ensures free { result ≡ Err NoMemory → ⊥ }
 {
     match x {
         Value::Int(number) => Ok(Value::Int(!*number)),
@@ -48,7 +52,8 @@ fn complement(x: &Value) -> Result<Value, Stop>
 /// A unary operator or a cast on a value. Memory is taken by `(string)` and `(array)` alone.
 #[tactic(auto, using(crate::proofs::Shown::shown, crate::proofs::Answers::mapped_then))]
 pub fn unary(alloc: Global, op: UnOp, x: &Value) -> Result<Value, Stop>
-    ensures { Tells result (php.unary_of op (value_of x.now)) }
+    ensures answer { Tells result (php.unary_of op (value_of x.now)) }
+    ensures memory { result ≡ Err NoMemory → may_take_memory op ≡ true }
 {
     match op {
         UnOp::Plus => int_answer(number_of(x)),

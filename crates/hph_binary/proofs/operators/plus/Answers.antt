@@ -8,7 +8,7 @@ use Rattle.hph_binary.proofs.operators.plus.Goals as goal
 
 pub returns-in_default : goal.returns-in_default
 returns-in_default c =
-    left_tells (value_of c.args.x.now) (value_of c.args.y.now) c.sum.result c.int_answer.result c.sum.ensures c.int_answer.ensures c.in_default.ensures
+    left_tells (value_of c.args.x.now) (value_of c.args.y.now) c.sum.result c.int_answer.result c.sum.ensures c.int_answer.ensures.answer c.in_default.ensures
 
 pub returns : goal.returns
 returns c =
