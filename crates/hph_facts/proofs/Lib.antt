@@ -12,3 +12,6 @@ pub mod Includes
 pub mod Recursion
 pub mod LateStaticBinding
 pub mod WholePrograms
+pub mod StaticVariables
+pub mod ClassesAtEntry
+pub mod ClassValues
