@@ -9,7 +9,7 @@ use hph_php::Builtin;
 use hph_value::{Stop, Value, to_bool};
 use std::alloc::Global;
 
-/// `count`
+/// The number of pairs of an array (`count`).
 #[tactic(auto, using(crate::proofs::Shown::shown, crate::proofs::Shown::count_shown))]
 pub fn count(array: &Value) -> Result<Value, Stop>
     ensures { Tells result (php.builtin_of Builtin.Count (value_of array.now ∷ [])).value }
@@ -22,7 +22,7 @@ pub fn count(array: &Value) -> Result<Value, Stop>
     }
 }
 
-/// `array_keys`
+/// The list of the keys of an array (`array_keys`).
 pub fn array_keys(alloc: Global, array: &Value) -> Result<Value, Stop>
     ensures { Tells result (php.builtin_of Builtin.ArrayKeys (value_of array.now ∷ [])).value }
 {
@@ -30,7 +30,7 @@ pub fn array_keys(alloc: Global, array: &Value) -> Result<Value, Stop>
     Ok(list_of(alloc, Side::Keys, pairs)?)
 }
 
-/// `array_values`
+/// The list of the values of an array (`array_values`).
 pub fn array_values(alloc: Global, array: &Value) -> Result<Value, Stop>
     ensures { Tells result (php.builtin_of Builtin.ArrayValues (value_of array.now ∷ [])).value }
 {
@@ -38,7 +38,7 @@ pub fn array_values(alloc: Global, array: &Value) -> Result<Value, Stop>
     Ok(list_of(alloc, Side::Values, pairs)?)
 }
 
-/// `in_array`
+/// Whether a value of an array equals this one (`in_array`), by `===` where the third argument is true.
 #[tactic(auto, using(crate::proofs::Shown::shown))]
 pub fn in_array(
     alloc: Global,
@@ -53,7 +53,7 @@ pub fn in_array(
     Ok(Value::Bool(there))
 }
 
-/// `array_key_exists`
+/// Whether an array has the key that a value is (`array_key_exists`). `IllegalOffset` for arrays and objects.
 #[tactic(auto, using(crate::proofs::Shown::shown))]
 pub fn array_key_exists(alloc: Global, key: &Value, array: &Value) -> Result<Value, Stop>
     ensures { Tells result (php.builtin_of Builtin.ArrayKeyExists (value_of key.now ∷ value_of array.now ∷ [])).value }

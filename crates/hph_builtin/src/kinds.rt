@@ -5,7 +5,7 @@ ghost use Rattle.hph_value.specs.Shown.{value_of};
 
 use hph_value::Value;
 
-/// `is_int`
+/// Whether a value is an int (`is_int`).
 #[tactic(auto, using(crate::proofs::Shown::shown))]
 pub fn is_int(value: &Value) -> bool
     ensures { result ≡ php.is_int (value_of value.now) }
@@ -13,7 +13,7 @@ pub fn is_int(value: &Value) -> bool
     matches!(value, Value::Int(_))
 }
 
-/// `is_string`
+/// Whether a value is a string (`is_string`).
 #[tactic(auto, using(crate::proofs::Shown::shown))]
 pub fn is_string(value: &Value) -> bool
     ensures { result ≡ php.is_string (value_of value.now) }
@@ -21,7 +21,7 @@ pub fn is_string(value: &Value) -> bool
     matches!(value, Value::Str(_))
 }
 
-/// `is_bool`
+/// Whether a value is a bool (`is_bool`).
 #[tactic(auto, using(crate::proofs::Shown::shown))]
 pub fn is_bool(value: &Value) -> bool
     ensures { result ≡ php.is_bool (value_of value.now) }
@@ -29,7 +29,7 @@ pub fn is_bool(value: &Value) -> bool
     matches!(value, Value::Bool(_))
 }
 
-/// `is_array`
+/// Whether a value is an array (`is_array`).
 #[tactic(auto, using(crate::proofs::Shown::shown))]
 pub fn is_array(value: &Value) -> bool
     ensures { result ≡ php.is_array (value_of value.now) }
@@ -37,7 +37,7 @@ pub fn is_array(value: &Value) -> bool
     matches!(value, Value::Arr(_))
 }
 
-/// `is_null`
+/// Whether a value is null (`is_null`).
 #[tactic(auto, using(crate::proofs::Shown::shown))]
 pub fn is_null(value: &Value) -> bool
     ensures { result ≡ php.is_null (value_of value.now) }
@@ -45,7 +45,7 @@ pub fn is_null(value: &Value) -> bool
     matches!(value, Value::Null)
 }
 
-/// `is_object`
+/// Whether a value is an object (`is_object`).
 #[tactic(auto, using(crate::proofs::Shown::shown))]
 pub fn is_object(value: &Value) -> bool
     ensures { result ≡ php.is_object (value_of value.now) }

@@ -21,7 +21,7 @@ fn quotient(a: i64, b: i64) -> Result<Value, Stop>
     }
 }
 
-/// `intdiv`
+/// The quotient toward 0 of two numbers (`intdiv`). `DivZero` by 0, `Overflow` past 64 bits.
 pub fn intdiv(x: &Value, y: &Value) -> Result<Value, Stop>
     ensures { Tells result (php.builtin_of Builtin.Intdiv (value_of x.now ∷ value_of y.now ∷ [])).value }
 {
@@ -41,7 +41,7 @@ fn size(a: i64) -> Result<Value, Stop>
     }
 }
 
-/// `abs`
+/// The size of a number (`abs`). `Overflow` for the least int.
 pub fn abs(x: &Value) -> Result<Value, Stop>
     ensures { Tells result (php.builtin_of Builtin.Abs (value_of x.now ∷ [])).value }
 {

@@ -18,7 +18,7 @@ use hph_php::{Builtin, Fatal};
 use hph_value::{Stop, Value};
 use std::alloc::Global;
 
-/// `strlen`
+/// The number of bytes of a text (`strlen`).
 #[tactic(auto, using(crate::proofs::Shown::shown))]
 pub fn strlen(alloc: Global, string: &Value) -> Result<Value, Stop>
     ensures { Tells result (php.builtin_of Builtin.Strlen (value_of string.now ∷ [])).value }
@@ -27,7 +27,7 @@ pub fn strlen(alloc: Global, string: &Value) -> Result<Value, Stop>
     Ok(Value::Int(text.len() as i64))
 }
 
-/// `ord`
+/// The first byte of a text, or 0 (`ord`).
 #[tactic(auto, using(crate::proofs::Shown::shown))]
 pub fn ord(alloc: Global, string: &Value) -> Result<Value, Stop>
     ensures { Tells result (php.builtin_of Builtin.Ord (value_of string.now ∷ [])).value }
@@ -36,7 +36,7 @@ pub fn ord(alloc: Global, string: &Value) -> Result<Value, Stop>
     Ok(Value::Int(i64::from(first_byte(text.as_slice()))))
 }
 
-/// `chr`
+/// The string of one byte, a number modulo 256 (`chr`).
 #[tactic(auto, using(crate::proofs::Shown::shown))]
 pub fn chr(alloc: Global, code: &Value) -> Result<Value, Stop>
     ensures { Tells result (php.builtin_of Builtin.Chr (value_of code.now ∷ [])).value }
@@ -45,7 +45,7 @@ pub fn chr(alloc: Global, code: &Value) -> Result<Value, Stop>
     Ok(Value::Str(Bytes::from_slice(alloc, &[byte_of(number)])?))
 }
 
-/// `strrev`
+/// The bytes of a text in the opposite order (`strrev`).
 #[tactic(auto, using(crate::proofs::Shown::shown))]
 pub fn strrev(alloc: Global, string: &Value) -> Result<Value, Stop>
     ensures { Tells result (php.builtin_of Builtin.Strrev (value_of string.now ∷ [])).value }
@@ -54,7 +54,7 @@ pub fn strrev(alloc: Global, string: &Value) -> Result<Value, Stop>
     Ok(Value::Str(reversed(alloc, text.as_slice())?))
 }
 
-/// `strtolower`
+/// A text with ASCII letters in lower case (`strtolower`).
 #[tactic(auto, using(crate::proofs::Shown::shown))]
 pub fn strtolower(alloc: Global, string: &Value) -> Result<Value, Stop>
     ensures { Tells result (php.builtin_of Builtin.Strtolower (value_of string.now ∷ [])).value }
@@ -63,7 +63,7 @@ pub fn strtolower(alloc: Global, string: &Value) -> Result<Value, Stop>
     Ok(Value::Str(lower_case(alloc, text.as_slice())?))
 }
 
-/// `strtoupper`
+/// A text with ASCII letters in upper case (`strtoupper`).
 #[tactic(auto, using(crate::proofs::Shown::shown))]
 pub fn strtoupper(alloc: Global, string: &Value) -> Result<Value, Stop>
     ensures { Tells result (php.builtin_of Builtin.Strtoupper (value_of string.now ∷ [])).value }
@@ -72,7 +72,7 @@ pub fn strtoupper(alloc: Global, string: &Value) -> Result<Value, Stop>
     Ok(Value::Str(upper_case(alloc, text.as_slice())?))
 }
 
-/// `trim`
+/// A text without space, tab, LF, CR, 0 and VT at both ends (`trim`).
 #[tactic(auto, using(crate::proofs::Shown::shown))]
 pub fn trim(alloc: Global, string: &Value) -> Result<Value, Stop>
     ensures { Tells result (php.builtin_of Builtin.Trim (value_of string.now ∷ [])).value }
@@ -90,7 +90,7 @@ fn part_of(alloc: Global, text: &Bytes, start: i64, length: &Value) -> Result<Va
     Ok(Value::Str(Bytes::from_slice(alloc, part(text.as_slice(), start, length))?))
 }
 
-/// `substr`
+/// The part of a text from a start on, all or of a length (`substr`).
 pub fn substr(alloc: Global, string: &Value, start: &Value, length: &Value) -> Result<Value, Stop>
     ensures { Tells result (php.builtin_of Builtin.Substr (value_of string.now ∷ value_of start.now ∷ value_of length.now ∷ [])).value }
 {
@@ -113,7 +113,7 @@ fn place_of(text: &Bytes, needle: &Bytes, offset: i64) -> Result<Value, Stop>
     }
 }
 
-/// `strpos`
+/// The place of the second text in the first from an offset on, or false (`strpos`). `BadArgument` for an offset outside of it.
 pub fn strpos(
     alloc: Global,
     haystack: &Value,
@@ -139,7 +139,7 @@ fn repeats_of(alloc: Global, text: &Bytes, times: i64) -> Result<Value, Stop>
     Ok(Value::Str(repeated(alloc, text.as_slice(), times as u64)?))
 }
 
-/// `str_repeat`
+/// A text so many times (`str_repeat`). `BadArgument` for a negative number.
 pub fn str_repeat(alloc: Global, string: &Value, times: &Value) -> Result<Value, Stop>
     ensures { Tells result (php.builtin_of Builtin.StrRepeat (value_of string.now ∷ value_of times.now ∷ [])).value }
 {
@@ -148,7 +148,7 @@ pub fn str_repeat(alloc: Global, string: &Value, times: &Value) -> Result<Value,
     repeats_of(alloc, &text, times)
 }
 
-/// `implode`
+/// The texts of the values of an array, joined by a text (`implode`). `ObjectUse` where an object is among them.
 #[tactic(auto, using(crate::proofs::Shown::shown))]
 pub fn implode(alloc: Global, separator: &Value, array: &Value) -> Result<Value, Stop>
     ensures { Tells result (php.builtin_of Builtin.Implode (value_of separator.now ∷ value_of array.now ∷ [])).value }
@@ -168,7 +168,7 @@ fn pieces_of(alloc: Global, separator: &Bytes, text: &Bytes) -> Result<Value, St
     Ok(exploded(alloc, separator.as_slice(), text.as_slice())?)
 }
 
-/// `explode`
+/// The pieces of the second text between the first (`explode`). `BadArgument` where the first is empty.
 pub fn explode(alloc: Global, separator: &Value, string: &Value) -> Result<Value, Stop>
     ensures { Tells result (php.builtin_of Builtin.Explode (value_of separator.now ∷ value_of string.now ∷ [])).value }
 {
