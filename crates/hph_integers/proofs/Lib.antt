@@ -1,0 +1,4 @@
+pub mod Bytes
+pub mod Signs
+pub mod Quotients
+pub mod Shifts

@@ -1,0 +1,5 @@
+pub mod Standing
+pub mod Branches
+pub mod Ifs
+pub mod Zeros
+pub mod Entries
