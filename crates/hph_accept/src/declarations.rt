@@ -233,8 +233,9 @@ pub fn foreach_target(met: Earliest, target: &ForeachTarget, context: Context<'_
 {
     match target {
         ForeachTarget::Variable { name } => bound(met, name, context),
-        ForeachTarget::Reference { name, ampersand } => {
-            bound(meet(met, Construct::RefElement, *ampersand), name, context)
+        ForeachTarget::Reference { source, ampersand } => {
+            let met = meet(met, Construct::RefElement, *ampersand);
+            expression(this_written(met, source.get()), source.get(), context)
         }
         ForeachTarget::Destructure {
             bracket,

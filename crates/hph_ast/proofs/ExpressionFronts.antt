@@ -12,7 +12,7 @@ use Rattle.hph_ast.specs.declared.expr.MemberName.{MemberName}
 use Rattle.hph_ast.specs.declared.expr.Step.{Step}
 use Rattle.hph_ast.specs.Fronts.{UsesFront}
 use Rattle.hph_ast.proofs.Fronts.{nothing, skip, both}
-use Rattle.hph_ast.specs.Expressions.{IsExpression, IsTail, IsShorts, IsInstances, IsTerm, IsPostfix, GoesOn, GoesOnByCall, IsSteps, IsStep, IsMember, IsScoped, IsPrimary, IsParts, IsInterpolation, IsArguments, IsArgument, IsMaybeArguments, IsItems, IsItem, IsTargets, IsPaths, IsTarget, IsTargetSteps}
+use Rattle.hph_ast.specs.Expressions.{IsExpression, IsTail, IsShorts, IsInstances, IsTerm, IsPostfix, GoesOn, GoesOnByCall, IsSteps, IsStep, IsMember, IsScoped, IsPrimary, IsParts, IsInterpolation, IsArguments, IsArgument, IsMaybeArguments, IsItems, IsItem, IsTargets, IsElement, IsWrittenOnly, IsPaths, IsTarget, IsTargetSteps}
 use Rattle.hph_ast.specs.Expressions as g
 
 mutual
@@ -134,11 +134,20 @@ mutual
   front_of_item (g.reference _ d1 _) = skip (front_of_postfix d1)
   front_of_item (g.pair_reference d0 _ _ d3 _) = both (front_of_expression d0) (skip (skip (front_of_postfix d3)))
 
-  pub front_of_targets : {ts : List Token} {a1 : List Item} {rest : List Token} → IsTargets ts a1 rest → UsesFront ts rest
+  pub front_of_targets : {ts : List Token} {a1 : List Item} {a2 : Token} {rest : List Token} → IsTargets ts a1 a2 rest → UsesFront ts rest
   front_of_targets (g.targets_end _) = skip nothing
-  front_of_targets (g.targets_last d0 _) = both (front_of_item d0) (skip nothing)
-  front_of_targets (g.targets_more d0 _ d2) = both (front_of_item d0) (skip (front_of_targets d2))
+  front_of_targets (g.targets_last d0 _) = both (front_of_element d0) (skip nothing)
+  front_of_targets (g.targets_more d0 _ d2) = both (front_of_element d0) (skip (front_of_targets d2))
   front_of_targets (g.targets_hole _ d1) = skip (front_of_targets d1)
+
+  pub front_of_element : {ts : List Token} {a1 : Item} {rest : List Token} → IsElement ts a1 rest → UsesFront ts rest
+  front_of_element (g.element_item d0) = front_of_item d0
+  front_of_element (g.element d0) = front_of_written_only d0
+  front_of_element (g.element_pair d0 _ d2) = both (front_of_expression d0) (skip (front_of_written_only d2))
+
+  pub front_of_written_only : {ts : List Token} {a1 : Expr} {rest : List Token} → IsWrittenOnly ts a1 rest → UsesFront ts rest
+  front_of_written_only (g.appended d0 _ _) = front_of_postfix d0
+  front_of_written_only (g.nested_targets _ d1 _) = skip (front_of_targets d1)
 
   pub front_of_paths : {a0 : (Expr → Bool)} {ts : List Token} {a2 : List Expr} {a3 : Token} {rest : List Token} → IsPaths a0 ts a2 a3 rest → UsesFront ts rest
   front_of_paths (g.paths_last d0 _ _ _) = both (front_of_postfix d0) (skip nothing)
@@ -154,3 +163,4 @@ mutual
   front_of_target_steps (g.target_end _) = nothing
   front_of_target_steps (g.target_index _ d1 _ d3) = skip (both (front_of_expression d1) (skip (front_of_target_steps d3)))
   front_of_target_steps (g.target_property _ d1 d2) = skip (both (front_of_member d1) (front_of_target_steps d2))
+  front_of_target_steps (g.target_static_property _ _ d2) = skip (skip (front_of_target_steps d2))

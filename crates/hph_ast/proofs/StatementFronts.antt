@@ -15,7 +15,7 @@ use Rattle.hph_ast.specs.Fronts.{UsesFront}
 use Rattle.hph_ast.proofs.Fronts.{nothing, skip, both}
 use Rattle.hph_ast.specs.Statements.{IsTest, IsExprs, IsMaybeExprs, IsForeachKey, IsForeachTarget, IsLevels, IsLabel, IsStatement, IsStatements, IsElseIfs, IsElse, IsCases, IsFunction, IsClassDeclaration, IsExtends, IsMembers, IsMember}
 use Rattle.hph_ast.specs.Statements as s
-use Rattle.hph_ast.proofs.ExpressionFronts.{front_of_expression, front_of_targets, front_of_paths}
+use Rattle.hph_ast.proofs.ExpressionFronts.{front_of_expression, front_of_postfix, front_of_targets, front_of_paths}
 use Rattle.hph_ast.proofs.DeclarationFronts.{front_of_variables, front_of_static_variables, front_of_property_items, front_of_constant_items, front_of_maybe_type, front_of_params, front_of_result, front_of_modifiers}
 
 pub front_of_test : {ts : List Token} {a1 : Expr} {rest : List Token} → IsTest ts a1 rest → UsesFront ts rest
@@ -35,7 +35,7 @@ front_of_foreach_key (s.a_key _ _) = skip (skip nothing)
 
 pub front_of_foreach_target : {ts : List Token} {a1 : ForeachTarget} {rest : List Token} → IsForeachTarget ts a1 rest → UsesFront ts rest
 front_of_foreach_target (s.to_variable _) = skip nothing
-front_of_foreach_target (s.to_reference _ _) = skip (skip nothing)
+front_of_foreach_target (s.to_reference _ d1 _) = skip (front_of_postfix d1)
 front_of_foreach_target (s.to_items _ d1) = skip (front_of_targets d1)
 
 pub front_of_levels : {ts : List Token} {a1 : Option ℕ} {a2 : Token} {rest : List Token} → IsLevels ts a1 a2 rest → UsesFront ts rest

@@ -16,7 +16,7 @@ use Rattle.hph_ast.specs.declared.operator.Grouping.TheVariants.{Left, Right, Al
 use Rattle.hph_ast.specs.declared.expr.Expr.{Expr}
 use Rattle.hph_ast.specs.declared.expr.Expr.TheVariants as e
 use Rattle.hph_ast.specs.declared.expr.Update.{Update}
-use Rattle.hph_ast.specs.declared.expr.ArrayForm.TheVariants.{Short, Long}
+use Rattle.hph_ast.specs.declared.expr.ArrayForm.TheVariants.{Short, Long, Targets}
 use Rattle.hph_ast.specs.declared.expr.StringPart.{StringPart}
 use Rattle.hph_ast.specs.declared.expr.StringPart.TheVariants as part
 use Rattle.hph_ast.specs.declared.expr.Item.{Item}
@@ -30,7 +30,7 @@ use Rattle.hph_ast.specs.declared.expr.Step.TheVariants as s
 use Rattle.hph_ast.specs.Levels.{level, grouping, update_level, prefix_level, prefix_of, instance_level, ternary_level, assign_level, Stops, opens}
 use Rattle.hph_ast.specs.Terminals.{IsMark, IsKeyword, IsClass, IsPreUpdate, IsPostUpdate, IsExit, IsKey, is_class_word, goes_on_as_target}
 use Rattle.hph_ast.specs.Places.{place, class_place, on, span, last_operand, last_expr, last_class, with_steps}
-use Rattle.hph_ast.specs.Shapes.{is_read, is_path, is_written, is_source, is_callable, is_class_expression}
+use Rattle.hph_ast.specs.Shapes.{is_read, is_path, is_written, is_source, is_callable, is_class_expression, has_targets}
 
 -- Each relation takes the tokens from a place on, the tree, and the tokens behind it.
 mutual
@@ -100,8 +100,8 @@ mutual
         IsPostfix mid y rest → is_source y ≡ true → Stops (suc assign_level) rest →
         IsTerm ts (e.AssignReference (span (place x) (place y)) x y q.start) rest
     -- refused: "[" items and holes "]" "=" expr
-    destructure : {ts mid rest : List Token} {o t : Token} {items : List Item} {y : Expr} →
-        IsMark m.OpenBracket o → IsTargets ts items (t ∷ mid) → t.kind ≡ k.Assign a.Set → IsExpression (suc assign_level) mid y rest → Stops (suc assign_level) rest →
+    destructure : {ts mid rest : List Token} {o c t : Token} {items : List Item} {y : Expr} →
+        IsMark m.OpenBracket o → IsTargets ts items c (t ∷ mid) → t.kind ≡ k.Assign a.Set → IsExpression (suc assign_level) mid y rest → Stops (suc assign_level) rest →
         IsTerm (o ∷ ts) (e.Destructure (span (on o) (place y)) items y) rest
     -- a prefix operator and the longest expression whose operators bind tighter
     prefix : {ts rest : List Token} {t : Token} {op : Prefix} {x : Expr} →
@@ -272,13 +272,26 @@ mutual
         IsExpression 1 ts x (t ∷ q ∷ mid) → IsMark m.DoubleArrow t → q.kind ≡ k.Operator b.BitAnd → IsPostfix mid y rest → is_source y ≡ true →
         IsItem ts (item.KeyedReference (span (place x) (place y)) x y q.start) rest
 
-  -- behind the "[" of a destructuring: items and holes with commas between, and "]"
-  pub data IsTargets : List Token → List Item → List Token → Type 0 where
-    targets_end : {rest : List Token} {c : Token} → IsMark m.CloseBracket c → IsTargets (c ∷ rest) [] rest
-    targets_last : {ts rest : List Token} {c : Token} {x : Item} → IsItem ts x (c ∷ rest) → IsMark m.CloseBracket c → IsTargets ts (x ∷ []) rest
-    targets_more : {ts mid rest : List Token} {t : Token} {x : Item} {xs : List Item} →
-        IsItem ts x (t ∷ mid) → IsMark m.Comma t → IsTargets mid xs rest → IsTargets ts (x ∷ xs) rest
-    targets_hole : {ts rest : List Token} {t : Token} {xs : List Item} → IsMark m.Comma t → IsTargets ts xs rest → IsTargets (t ∷ ts) (item.Hole (on t) ∷ xs) rest
+  -- behind the "[" of a destructuring: elements and holes with commas between, and the "]" that closes
+  pub data IsTargets : List Token → List Item → Token → List Token → Type 0 where
+    targets_end : {rest : List Token} {c : Token} → IsMark m.CloseBracket c → IsTargets (c ∷ rest) [] c rest
+    targets_last : {ts rest : List Token} {c : Token} {x : Item} → IsElement ts x (c ∷ rest) → IsMark m.CloseBracket c → IsTargets ts (x ∷ []) c rest
+    targets_more : {ts mid rest : List Token} {t c : Token} {x : Item} {xs : List Item} →
+        IsElement ts x (t ∷ mid) → IsMark m.Comma t → IsTargets mid xs c rest → IsTargets ts (x ∷ xs) c rest
+    targets_hole : {ts rest : List Token} {t c : Token} {xs : List Item} → IsMark m.Comma t → IsTargets ts xs c rest → IsTargets (t ∷ ts) (item.Hole (on t) ∷ xs) c rest
+
+  -- refused, an element of a destructuring: item | [expr "=>"] what is only written
+  pub data IsElement : List Token → Item → List Token → Type 0 where
+    element_item : {ts rest : List Token} {x : Item} → IsItem ts x rest → IsElement ts x rest
+    element : {ts rest : List Token} {x : Expr} → IsWrittenOnly ts x rest → IsElement ts (item.Plain (place x) x) rest
+    element_pair : {ts mid rest : List Token} {t : Token} {x y : Expr} →
+        IsExpression 1 ts x (t ∷ mid) → IsMark m.DoubleArrow t → IsWrittenOnly mid y rest → IsElement ts (item.Keyed (span (place x) (place y)) x y) rest
+
+  -- a written path with a step "[]", or a destructuring within another that is no array: "[" elements and holes "]"
+  pub data IsWrittenOnly : List Token → Expr → List Token → Type 0 where
+    appended : {ts rest : List Token} {x : Expr} → IsPostfix ts x rest → is_read x ≡ false → is_written x ≡ true → IsWrittenOnly ts x rest
+    nested_targets : {ts rest : List Token} {o c : Token} {items : List Item} →
+        IsMark m.OpenBracket o → IsTargets ts items c rest → has_targets items ≡ true → IsWrittenOnly (o ∷ ts) (e.Array (span (on o) (on c)) Targets items) rest
 
   -- behind "(": path {"," path} [","] ")", each path read and passing a test
   pub data IsPaths : (Expr → Bool) → List Token → List Expr → Token → List Token → Type 0 where
@@ -289,7 +302,7 @@ mutual
     paths_more : {test : Expr → Bool} {ts mid rest : List Token} {t c : Token} {x : Expr} {xs : List Expr} →
         IsPostfix ts x (t ∷ mid) → is_read x ≡ true → test x ≡ true → IsMark m.Comma t → IsPaths test mid xs c rest → IsPaths test ts (x ∷ xs) c rest
 
-  -- refused, behind "new" and "instanceof": (VAR | cls "::" VAR) { "[" expr "]" | "->" member } | "(" expr ")"
+  -- refused, behind "new" and "instanceof": (VAR | cls "::" VAR) { "[" expr "]" | "->" member | "::" VAR } | "(" expr ")"
   pub data IsTarget : List Token → Expr → List Token → Type 0 where
     target_variable : {ts rest : List Token} {t : Token} {name : List ℕ} {steps : List Step} →
         t.kind ≡ k.Variable name → IsTargetSteps ts steps rest → IsTarget (t ∷ ts) (with_steps (e.Variable (on t) name) steps) rest
@@ -307,3 +320,7 @@ mutual
         IsTargetSteps (o ∷ ts) (s.Index (span (on o) (on c)) x ∷ steps) rest
     target_property : {ts mid rest : List Token} {t l : Token} {name : MemberName} {steps : List Step} →
         IsMark m.Arrow t → IsMember ts name l mid → IsTargetSteps mid steps rest → IsTargetSteps (t ∷ ts) (s.Property (span (on t) (on l)) name ∷ steps) rest
+    -- what is refused as a whole keeps no other node for a static property that a step names
+    target_static_property : {ts rest : List Token} {t l : Token} {name : List ℕ} {steps : List Step} →
+        IsMark m.DoubleColon t → l.kind ≡ k.Variable name → IsTargetSteps ts steps rest →
+        IsTargetSteps (t ∷ l ∷ ts) (s.Property (span (on t) (on l)) (n.Computed (e.Variable (on l) name)) ∷ steps) rest

@@ -97,7 +97,7 @@ unset_refused x ctx = on_true (is_property (out-Expr x)) c.UnsetProperty (part x
 
 abbrev pub target_refused : ForeachTarget → Refused
 target_refused (target.Variable name) ctx = bound name ctx
-target_refused (target.Reference name ampersand) ctx = (c.RefElement, ampersand) ∷ bound name ctx
+target_refused (target.Reference x ampersand) ctx = (c.RefElement, ampersand) ∷ (this_written (part x) ++ refused_in x ctx)
 target_refused (target.Destructure bracket items) ctx = (c.Destructure, bracket) ∷ all_in item_found items ctx
 
 -- a method that begins with `__`, but for the constructor

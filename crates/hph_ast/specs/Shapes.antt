@@ -4,8 +4,11 @@ use Rattle.std.specs.Prelude.{Bool, true, false, not, ◌&&◌, ◌||◌, List, 
 use Rattle.std.specs.List.{list_any}
 use Rattle.hph_ast.specs.declared.expr.Expr.{Expr, out-Expr}
 use Rattle.hph_ast.specs.declared.expr.Step.{Step, out-Step}
-use Rattle.hph_ast.specs.declared.expr.ClassReference.TheOpen.{Expr-F, Step-F}
-use Rattle.hph_ast.specs.Layers.{ExprLayer, StepLayer}
+use Rattle.hph_ast.specs.declared.expr.Item.{Item, out-Item}
+use Rattle.hph_ast.specs.declared.expr.ArrayForm.{ArrayForm}
+use Rattle.hph_ast.specs.declared.expr.ArrayForm.TheVariants.{Targets}
+use Rattle.hph_ast.specs.declared.expr.ClassReference.TheOpen.{Expr-F, Item-F, Step-F}
+use Rattle.hph_ast.specs.Layers.{ExprLayer, ItemLayer, StepLayer}
 
 abbrev pub is_append_at : StepLayer → Bool
 is_append_at (Step-F.Append at) = true
@@ -29,6 +32,31 @@ is_read_at _ = true
 
 abbrev pub is_read : Expr → Bool
 is_read x = is_read_at (out-Expr x)
+
+-- elements of a destructuring within another
+abbrev pub is_targets : ArrayForm → Bool
+is_targets Targets = true
+is_targets _ = false
+
+-- what stands as an element of a destructuring alone: a path with a step `[]`, or elements of which one stands there alone
+abbrev pub is_written_only_at : ExprLayer → Bool
+is_written_only_at (Expr-F.Array at form items) = is_targets form
+is_written_only_at x = not (is_read_at x)
+
+abbrev pub is_written_only : Expr → Bool
+is_written_only x = is_written_only_at (out-Expr x)
+
+abbrev pub is_target_at : ItemLayer → Bool
+is_target_at (Item-F.Plain at x) = is_written_only x
+is_target_at (Item-F.Keyed at x y) = is_written_only y
+is_target_at (Item-F.Hole at) = true
+is_target_at _ = false
+
+abbrev pub is_target : Item → Bool
+is_target x = is_target_at (out-Item x)
+
+abbrev pub has_targets : List Item → Bool
+has_targets items = list_any is_target items
 
 -- a variable, of a function or of a class
 abbrev pub is_variable_at : ExprLayer → Bool
@@ -93,6 +121,7 @@ is_callable x = is_callable_at (out-Expr x)
 -- an expression that stands for a class before `::`
 abbrev pub is_class_expression_at : ExprLayer → Bool
 is_class_expression_at (Expr-F.ClassConstant at class name) = true
+is_class_expression_at (Expr-F.ClassName at class colons) = true
 is_class_expression_at x = is_base_at x || is_open_at x
 
 abbrev pub is_class_expression : Expr → Bool

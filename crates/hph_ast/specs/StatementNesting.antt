@@ -30,6 +30,7 @@ abbrev pub param_nesting : Param → ℕ
 param_nesting p = suc (max (maybe type_nesting p.ty) (maybe nesting p.default))
 
 abbrev pub target_nesting : ForeachTarget → ℕ
+target_nesting (target.Reference x ampersand) = nesting x
 target_nesting (target.Destructure bracket items) = greatest item_nesting items
 target_nesting _ = 0
 

@@ -32,9 +32,9 @@ use Rattle.hph_ast.specs.declared.stmt.ForeachTarget.TheVariants as target
 use Rattle.hph_ast.specs.declared.stmt.StaticVariable.{StaticVariable}
 use Rattle.hph_ast.specs.declared.program.FileTree.{FileTree}
 use Rattle.hph_ast.specs.Places.{place, on, span, identifier}
-use Rattle.hph_ast.specs.Shapes.{is_written}
+use Rattle.hph_ast.specs.Shapes.{is_written, is_source}
 use Rattle.hph_ast.specs.Terminals.{IsMark, IsKeyword}
-use Rattle.hph_ast.specs.Expressions.{IsExpression, IsTargets, IsPaths}
+use Rattle.hph_ast.specs.Expressions.{IsExpression, IsPostfix, IsTargets, IsPaths}
 use Rattle.hph_ast.specs.Declarations.{IsVariables, IsStaticVariables, IsPropertyItems, IsConstantItems, IsMaybeType, IsParams, IsResult, IsModifiers, no_modifiers, has_modifier}
 
 abbrev pub StatementLayer : Type 0
@@ -113,13 +113,13 @@ pub data IsForeachKey : List Token → Option Identifier → List Token → Type
   no_key : {ts : List Token} → IsForeachKey ts None ts
   a_key : {rest : List Token} {t q : Token} {name : List ℕ} → t.kind ≡ k.Variable name → IsMark m.DoubleArrow q → IsForeachKey (t ∷ q ∷ rest) (Some (identifier t name)) rest
 
--- VAR; refused: "&" VAR | "[" items and holes "]"
+-- VAR; refused: "&" path | "[" elements and holes "]"
 pub data IsForeachTarget : List Token → ForeachTarget → List Token → Type 0 where
   to_variable : {rest : List Token} {t : Token} {name : List ℕ} → t.kind ≡ k.Variable name → IsForeachTarget (t ∷ rest) (target.Variable (identifier t name)) rest
-  to_reference : {rest : List Token} {t q : Token} {name : List ℕ} →
-      t.kind ≡ k.Operator b.BitAnd → q.kind ≡ k.Variable name → IsForeachTarget (t ∷ q ∷ rest) (target.Reference (identifier q name) t.start) rest
-  to_items : {ts rest : List Token} {o : Token} {items : List Item} →
-      IsMark m.OpenBracket o → IsTargets ts items rest → IsForeachTarget (o ∷ ts) (target.Destructure o.start items) rest
+  to_reference : {ts rest : List Token} {t : Token} {x : Expr} →
+      t.kind ≡ k.Operator b.BitAnd → IsPostfix ts x rest → is_source x ≡ true → IsForeachTarget (t ∷ ts) (target.Reference x t.start) rest
+  to_items : {ts rest : List Token} {o c : Token} {items : List Item} →
+      IsMark m.OpenBracket o → IsTargets ts items c rest → IsForeachTarget (o ∷ ts) (target.Destructure o.start items) rest
 
 -- [INT] ";"
 pub data IsLevels : List Token → Option ℕ → Token → List Token → Type 0 where

@@ -173,11 +173,12 @@ pub enum Expr {
     },
 }
 
-/// `[..]` or `array(..)`.
+/// `[..]` or `array(..)`; or `[..]` as an element of a destructuring that is no array, which is refused with the whole.
 #[derive(Clone, Copy, PartialEq, Eq)]
 pub enum ArrayForm {
     Short,
     Long,
+    Targets,
 }
 
 /// A `++` or `--`, before or after its path.
@@ -252,5 +253,6 @@ pub enum Step {
     Index { at: At, key: Boxed<Expr> },
     /// `[]`
     Append { at: At },
+    /// `->` and a member; behind `new` and `instanceof`, where it is refused, `::` and a variable too.
     Property { at: At, name: Boxed<MemberName> },
 }

@@ -120,7 +120,7 @@ pub struct Case {
 #[derive(Drop)]
 pub enum ForeachTarget {
     Variable { name: Identifier },
-    Reference { name: Identifier, ampersand: u32 },
+    Reference { source: Boxed<Expr>, ampersand: u32 },
     Destructure { bracket: u32, items: Items<Item> },
 }
 

@@ -1,2 +1,4 @@
 pub mod Variants
 pub mod Turns
+pub mod Shorter
+pub mod Tools

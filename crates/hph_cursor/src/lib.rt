@@ -15,5 +15,6 @@ pub use error::ParseFault;
 pub use kinds::{grouping, is_set, prefix_level};
 pub use places::{class_place, on, place, span};
 pub use shapes::{
-    is_callable, is_class, is_class_expression, is_path, is_read, is_source, is_written,
+    is_callable, is_class, is_class_expression, is_path, is_read, is_source, is_target, is_written,
+    is_written_only,
 };

@@ -7,7 +7,7 @@ ghost use Rattle.hph_ast.specs.Bytes as bytes;
 ghost use Rattle.hph_ast.specs.Shapes as shapes;
 ghost use Rattle.hph_ast.specs.declared.expr.Expr.{out-Expr};
 
-use hph_ast::{Expr, Step};
+use hph_ast::{ArrayForm, Expr, Item, Step};
 
 fn is_append(step: &Step) -> bool
     ensures { result ≡ shapes.is_append step.now }
@@ -33,6 +33,27 @@ pub fn is_read(expr: &Expr) -> bool
     match expr {
         Expr::Path { steps, .. } => !appends(steps.as_slice()),
         _ => true,
+    }
+}
+
+/// Whether an expression stands as an element of a destructuring alone.
+pub fn is_written_only(expr: &Expr) -> bool
+    ensures { result ≡ shapes.is_written_only expr.now }
+{
+    match expr {
+        Expr::Array { form, .. } => matches!(form, ArrayForm::Targets),
+        _ => !is_read(expr),
+    }
+}
+
+/// Whether an element stands in a destructuring alone.
+pub fn is_target(item: &Item) -> bool
+    ensures { result ≡ shapes.is_target item.now }
+{
+    match item {
+        Item::Plain { value, .. } | Item::Keyed { value, .. } => is_written_only(value.get()),
+        Item::Reference { .. } | Item::KeyedReference { .. } => false,
+        Item::Hole { .. } => true,
     }
 }
 
@@ -125,7 +146,7 @@ pub fn is_class_expression(expr: &Expr) -> bool
     ensures { result ≡ shapes.is_class_expression expr.now }
 {
     match expr {
-        Expr::ClassConstant { .. } => true,
+        Expr::ClassConstant { .. } | Expr::ClassName { .. } => true,
         _ => is_base(expr) || is_open(expr),
     }
 }

@@ -7,7 +7,7 @@ ghost use Rattle.hph_fexpr.specs.Arrays as spec;
 
 use crate::grammar::Grammar;
 use hph_ast::{Expr, Item, Mark};
-use hph_cursor::{Cursor, ParseFault, is_source, on, place, span};
+use hph_cursor::{Cursor, ParseFault, is_source, is_target, is_written_only, on, place, span};
 use hph_fexpr::{Elements, Form};
 use sqlite_items::{Boxed, Items};
 use std::alloc::Global;
@@ -15,7 +15,7 @@ use std::alloc::Global;
 impl<F: Fn(Global, &mut Cursor<'_>, usize, Form) -> Result<Boxed<Expr>, ParseFault>> Grammar<F> {
     /// A path behind `&`.
     #[tactic(auto, unfolding(hph_fexpr::specs::Arrays::source))]
-    fn source(&self, cursor: &mut Cursor<'_>) -> Result<Boxed<Expr>, ParseFault>
+    pub fn source(&self, cursor: &mut Cursor<'_>) -> Result<Boxed<Expr>, ParseFault>
         requires { Nests self.now.depth (F.pre self.now.nested) (F.post self.now.nested) }
         ensures { Reads (spec.source (parse self.now.depth) cursor.old) result cursor.new }
     {
@@ -64,7 +64,7 @@ impl<F: Fn(Global, &mut Cursor<'_>, usize, Form) -> Result<Boxed<Expr>, ParseFau
         if cursor.sees_ampersand() {
             return self.keyed_reference(cursor, key);
         }
-        let value = self.level(cursor, 1)?;
+        let value = self.value(cursor)?;
         Ok(Item::Keyed {
             at: span(place(key.get()), place(value.get())),
             key,
@@ -72,15 +72,27 @@ impl<F: Fn(Global, &mut Cursor<'_>, usize, Form) -> Result<Boxed<Expr>, ParseFau
         })
     }
 
+    /// Behind the key, at `=>`.
+    #[tactic(auto, unfolding(hph_fexpr::specs::Arrays::keyed_by))]
+    fn keyed_by(&self, cursor: &mut Cursor<'_>, key: Boxed<Expr>) -> Result<Item, ParseFault>
+        requires { Nests self.now.depth (F.pre self.now.nested) (F.post self.now.nested) }
+        ensures { Reads (spec.keyed_by (parse self.now.depth) key cursor.old) result cursor.new }
+    {
+        if is_written_only(key.get()) {
+            return Err(cursor.refuse());
+        }
+        cursor.take()?;
+        self.keyed(cursor, key)
+    }
+
     #[tactic(auto, unfolding(hph_fexpr::specs::Arrays::valued))]
     fn valued(&self, cursor: &mut Cursor<'_>) -> Result<Item, ParseFault>
         requires { Nests self.now.depth (F.pre self.now.nested) (F.post self.now.nested) }
         ensures { Reads (spec.valued (parse self.now.depth) cursor.old) result cursor.new }
     {
-        let value = self.level(cursor, 1)?;
+        let value = self.value(cursor)?;
         if cursor.sees(Mark::DoubleArrow) {
-            cursor.take()?;
-            return self.keyed(cursor, value);
+            return self.keyed_by(cursor, value);
         }
         Ok(Item::Plain {
             at: place(value.get()),
@@ -106,27 +118,29 @@ impl<F: Fn(Global, &mut Cursor<'_>, usize, Form) -> Result<Boxed<Expr>, ParseFau
         ensures { Reads (spec.elements (parse self.now.depth) closing cursor.old) result cursor.new }
     {
         let mut items = Items::new(self.alloc);
-        let mut holes = false;
+        let mut targets = false;
         for _turn in 0..cursor.left() {
             if cursor.sees(closing) {
                 let close = on(cursor.take()?);
                 return Ok(Elements {
                     items,
-                    holes,
+                    targets,
                     close,
                 });
             }
             if cursor.sees(Mark::Comma) {
                 let comma = cursor.take()?;
                 items.push(Item::Hole { at: on(comma) })?;
-                holes = true;
+                targets = true;
             } else {
-                items.push(self.element(cursor)?)?;
+                let item = self.element(cursor)?;
+                targets = targets || is_target(&item);
+                items.push(item)?;
                 if !cursor.sees(Mark::Comma) {
                     let close = on(cursor.expect(closing)?);
                     return Ok(Elements {
                         items,
-                        holes,
+                        targets,
                         close,
                     });
                 }

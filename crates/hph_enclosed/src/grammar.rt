@@ -29,6 +29,14 @@ impl<F: Fn(Global, &mut Cursor<'_>, usize, Form) -> Result<Boxed<Expr>, ParseFau
         (self.nested)(self.alloc, cursor, self.depth, Form::Level(least))
     }
 
+    /// An expression, or what is only written, as an element of an array or a destructuring.
+    pub fn value(&self, cursor: &mut Cursor<'_>) -> Result<Boxed<Expr>, ParseFault>
+        requires { Nests self.now.depth (F.pre self.now.nested) (F.post self.now.nested) }
+        ensures { Reads (parse self.now.depth form.Element cursor.old) result cursor.new }
+    {
+        (self.nested)(self.alloc, cursor, self.depth, Form::Element)
+    }
+
     /// An expression without operators.
     pub fn path(&self, cursor: &mut Cursor<'_>) -> Result<Boxed<Expr>, ParseFault>
         requires { Nests self.now.depth (F.pre self.now.nested) (F.post self.now.nested) }

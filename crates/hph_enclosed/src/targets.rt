@@ -12,6 +12,7 @@ ghost use Rattle.hph_cursor.specs.Next.{class_by};
 ghost use Rattle.hph_fexpr.specs.Classes as spec;
 
 use crate::grammar::Grammar;
+use crate::names::named_by_variable;
 use crate::strings::variable_of;
 use hph_ast::{ClassReference, Expr, Keyword, Kind, Mark, Step, Token};
 use hph_cursor::nodes::{by_expression, with_steps};
@@ -73,6 +74,22 @@ impl<F: Fn(Global, &mut Cursor<'_>, usize, Form) -> Result<Boxed<Expr>, ParseFau
         })
     }
 
+    /// At `::`.
+    #[tactic(auto, unfolding(hph_fexpr::specs::Classes::target_static_property))]
+    fn target_static_property(&self, cursor: &mut Cursor<'_>) -> Result<Step, ParseFault>
+        ensures { Reads (spec.target_static_property (parse self.now.depth) cursor.old) result cursor.new }
+    {
+        let colons = cursor.take()?;
+        let token = cursor.take()?;
+        let Kind::Variable(name) = &token.kind else {
+            return Err(cursor.refuse());
+        };
+        Ok(Step::Property {
+            at: span(on(colons), on(token)),
+            name: named_by_variable(self.alloc, token, name)?,
+        })
+    }
+
     /// All steps that follow.
     fn target_steps(&self, cursor: &mut Cursor<'_>) -> Result<Items<Step>, ParseFault>
         requires { Nests self.now.depth (F.pre self.now.nested) (F.post self.now.nested) }
@@ -85,7 +102,7 @@ impl<F: Fn(Global, &mut Cursor<'_>, usize, Form) -> Result<Boxed<Expr>, ParseFau
             } else if cursor.sees(Mark::Arrow) {
                 found.push(self.target_property(cursor)?)?;
             } else if cursor.sees(Mark::DoubleColon) {
-                return Err(cursor.refuse());
+                found.push(self.target_static_property(cursor)?)?;
             } else {
                 return Ok(found);
             }

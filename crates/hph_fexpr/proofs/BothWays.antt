@@ -9,6 +9,7 @@ use Rattle.hph_ast.specs.declared.expr.Item.{Item}
 use Rattle.hph_ast.specs.Levels.{top}
 use Rattle.hph_ast.specs.Nesting.{nesting, item_nesting, greatest}
 use Rattle.hph_ast.specs.Places.{on}
+use Rattle.hph_ast.specs.Shapes.{has_targets}
 use Rattle.hph_ast.specs.Expressions.{IsPostfix, IsPaths, IsTargets}
 use Rattle.hph_fexpr.specs.declared.form.Form.TheVariants.{Level, Postfix}
 use Rattle.hph_fexpr.specs.declared.elements.Elements.{Elements}
@@ -65,14 +66,13 @@ pub paths_complete : (laws : NestingLaws) →
 paths_complete laws depth test tokens xs c rest d small = paths_is laws depth (parse depth) (parse_is laws depth) test d small
 
 pub targets_sound : (depth : ℕ) (tokens : List Token) (found : Elements) (rest : List Token) →
-    elements (parse depth) CloseBracket tokens ≡ Some (found, rest) → IsTargets tokens found.items rest
+    elements (parse depth) CloseBracket tokens ≡ Some (found, rest) → (c : Token) × IsTargets tokens found.items c rest
 targets_sound depth tokens found rest h =
     let r = given (Found CloseBracket _ _ tokens) (elements_ok (parse depth) (parse_ok depth) CloseBracket tokens) h in
-    subst (λ xs. IsTargets tokens xs rest) (sym r.is_all) (r.as_targets refl)
+    (r.close, subst (λ xs. IsTargets tokens xs r.close rest) (sym r.is_all) (r.as_targets refl))
 
-pub targets_complete : (laws : NestingLaws) → (depth : ℕ) (tokens : List Token) (items : List Item) (rest : List Token) →
-    IsTargets tokens items rest →
+pub targets_complete : (laws : NestingLaws) → (depth : ℕ) (tokens : List Token) (items : List Item) (c : Token) (rest : List Token) →
+    IsTargets tokens items c rest →
     greatest item_nesting items ≤ depth →
-    (found : Elements) × (elements (parse depth) CloseBracket tokens ≡ Some (found, rest)) × (found.items ≡ items)
-targets_complete laws depth tokens items rest d small = let r =
-    targets_is laws depth (parse depth) (parse_is laws depth) d small in (r.read, r.is, r.items_are)
+    elements (parse depth) CloseBracket tokens ≡ Some (record { items = items; targets = has_targets items; close = on c }, rest)
+targets_complete laws depth tokens items c rest d small = targets_is laws depth (parse depth) (parse_is laws depth) d small

@@ -20,7 +20,7 @@ use Rattle.hph_fexpr.specs.NestingLaws.{NestingLaws}
 use Rattle.hph_fexpr.specs.Parser.{parse}
 use Rattle.hph_fexpr.specs.Public.{ends_kind, ends, limit, SpellsAt, checked, expr_at}
 use Rattle.hph_fexpr.proofs.Tools.{some_inj, if_true}
-use Rattle.hph_fexpr.proofs.Shorter.{expression_shorter}
+use Rattle.hph_cursor.proofs.Shorter.{expression_shorter}
 use Rattle.hph_fexpr.proofs.BothWays.{level_sound, level_complete}
 
 ends_binds : (kind : Kind) → ends_kind kind ≡ true → binds kind ≡ 0

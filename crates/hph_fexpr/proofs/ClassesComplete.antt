@@ -25,7 +25,7 @@ use Rattle.hph_cursor.specs.Next.{class_by}
 use Rattle.hph_fexpr.specs.Classes as p
 use Rattle.hph_fexpr.specs.Classes.{by_expression}
 use Rattle.hph_fexpr.proofs.Tools.{then_is, choose_some, choose_none, if_true, if_false, mark_is, not_mark, expect_is, opens_sees}
-use Rattle.hph_fexpr.proofs.Shorter.{expression_shorter, member_shorter}
+use Rattle.hph_cursor.proofs.Shorter.{expression_shorter, member_shorter}
 use Rattle.hph_fexpr.proofs.Firsts.{Complete, closed_is}
 use Rattle.hph_fexpr.proofs.NestingGrows.{steps_deep}
 use Rattle.hph_fexpr.proofs.ListsComplete.{arguments_is}
@@ -100,10 +100,11 @@ module _ (laws : NestingLaws) (depth : ℕ) (below : Form → Parser Expr) (all 
   target_steps_from_is : (n : ℕ) (found : List Step) {ts rest : List Token} {ss : List Step} → IsTargetSteps ts ss rest → length ts ≤ n →
       greatest step_nesting ss ≤ depth →
       p.target_steps_from below n found ts ≡ Some (found ++ ss, rest)
-  unfolding p.target_steps_from p.target_index p.target_property
+  unfolding p.target_steps_from p.target_index p.target_property p.target_static_property
   target_steps_from_is zero found (g.target_end {ts = ts} h) short small = ap (λ ss. Some (ss, ts)) (sym (append-nil found))
   target_steps_from_is zero found (g.target_index opens d mark more) short small = absurd (omega arith)
   target_steps_from_is zero found (g.target_property arrow d more) short small = absurd (omega arith)
+  target_steps_from_is zero found (g.target_static_property colons is more) short small = absurd (omega arith)
   target_steps_from_is (suc n) found (g.target_end {ts = ts} h) short small =
       if_false _ _ (target_shut m.OpenBracket refl ts h)
       (if_false _ _ (target_shut m.Arrow refl ts h)
@@ -122,6 +123,14 @@ module _ (laws : NestingLaws) (depth : ℕ) (below : Form → Parser Expr) (all 
       (then_is _ (then_is _ (member_is d (omega (arith, laws.step_property (span (on t) (on l)) name))) refl)
       (target_steps_from_is n (found ++ step ∷ []) more (omega (arith, member_shorter d)) (omega arith)
       ∙ ap (λ ss. Some (ss, rest)) (append_assoc found (step ∷ []) steps))))
+
+  target_steps_from_is (suc turns) found
+      (g.target_static_property {ts = ts} {rest = rest} {t = t} {l = l} {name = name} {steps = steps} colons is more) short small =
+      let step = s.Property (span (on t) (on l)) (n.Computed (e.Variable (on l) name)) in
+      if_false _ _ (ap (is_mark m.OpenBracket) colons) (if_false _ _ (ap (is_mark m.Arrow) colons) (if_true _ _ (mark_is m.DoubleColon colons)
+      (then_is _ (ap (λ kind. p.static_step_by below t l kind ts) is)
+      (target_steps_from_is turns (found ++ step ∷ []) more (omega arith) (omega arith)
+      ∙ ap (λ ss. Some (ss, rest)) (append_assoc found (step ∷ []) steps)))))
 
   by_steps_is : (x : Expr) {ts rest : List Token} {ss : List Step} → IsTargetSteps ts ss rest → nesting (with_steps x ss) ≤ depth →
       p.by_steps below x ts ≡ Some (by_expression (with_steps x ss), rest)

@@ -28,7 +28,7 @@ use Rattle.hph_cursor.specs.Next.{class_by}
 use Rattle.hph_fexpr.specs.Classes as p
 use Rattle.hph_fexpr.specs.Classes.{constant_of, by_expression}
 use Rattle.hph_fexpr.proofs.Tools.{some_inj, is_mark_true, Gives, none, some, then_ok, map_ok, choose_ok, if_ok, take_at, expect_at, expect_with, opens_sees, Sound, More, no_more, one_more, closed_as}
-use Rattle.hph_fexpr.proofs.Shorter.{expression_shorter, member_shorter}
+use Rattle.hph_cursor.proofs.Shorter.{expression_shorter, member_shorter}
 use Rattle.hph_fexpr.proofs.ListsSound.{arguments_ok}
 
 -- the name of a member and the place of its last token
@@ -89,15 +89,19 @@ data TargetStep : List Token → Step → List Token → Type 0 where
       TargetStep (o ∷ ts) (s.Index (span (on o) (on c)) x) rest
   property_step : {ts rest : List Token} {t l : Token} {name : MemberName} → IsMark m.Arrow t → IsMember ts name l rest →
       TargetStep (t ∷ ts) (s.Property (span (on t) (on l)) name) rest
+  static_step : {rest : List Token} {t l : Token} {name : List ℕ} → IsMark m.DoubleColon t → l.kind ≡ k.Variable name →
+      TargetStep (t ∷ l ∷ rest) (s.Property (span (on t) (on l)) (n.Computed (e.Variable (on l) name))) rest
 
 step_shorter : {ts rest : List Token} {x : Step} → TargetStep ts x rest → length rest < length ts
 step_shorter (index_step o d c) = omega (arith, expression_shorter d)
 step_shorter (property_step t d) = omega (arith, member_shorter d)
+step_shorter (static_step t l) = omega arith
 
 before_steps : {ts mid rest : List Token} {x : Step} {xs : List Step} → TargetStep ts x mid → IsTargetSteps mid xs rest →
     IsTargetSteps ts (x ∷ xs) rest
 before_steps (index_step o d c) more = g.target_index o d c more
 before_steps (property_step t d) more = g.target_property t d more
+before_steps (static_step t l) more = g.target_static_property t l more
 
 -- an expression with all steps that follow, as a class
 record BySteps (x : Expr) (ts : List Token) (class : ClassReference) (rest : List Token) : Type 0 where
@@ -180,6 +184,17 @@ module _ (below : Form → Parser Expr) (ok : Sound below) where
       then_ok (member_ok ts) (λ r rest d. some (subst (λ last. TargetStep (t ∷ ts) (s.Property (span (on t) last) r.0) rest) (sym d.is_last)
       (property_step (is_mark_true m.Arrow t.kind h) d.is)))
 
+  static_step_by_ok : (t l : Token) (kind : Kind) → IsMark m.DoubleColon t → l.kind ≡ kind → (ts : List Token) →
+      Gives (TargetStep (t ∷ l ∷ ts)) (p.static_step_by below t l kind ts)
+  static_step_by_ok t l (k.Variable name) mark is ts = some (static_step mark is)
+  static_step_by_ok t l _ mark is ts = none
+
+  static_property_ok : (ts : List Token) → sees m.DoubleColon ts ≡ true → Gives (TargetStep ts) (p.target_static_property below ts)
+  unfolding p.target_static_property
+  static_property_ok [] h = none
+  static_property_ok (t ∷ []) h = none
+  static_property_ok (t ∷ l ∷ ts) h = static_step_by_ok t l l.kind (is_mark_true m.DoubleColon t.kind h) refl ts
+
   target_steps_from_ok : (n : ℕ) (found : List Step) (ts : List Token) → length ts ≤ n →
       Gives (More IsTargetSteps found ts) (p.target_steps_from below n found ts)
   unfolding p.target_steps_from
@@ -193,7 +208,11 @@ module _ (below : Form → Parser Expr) (ok : Sound below) where
       (λ f. then_ok (target_property_ok ts f)
       (λ x us d. map_ok (target_steps_from_ok n (found ++ x ∷ []) us (omega (arith, step_shorter d)))
       (λ all rest r. one_more r (λ xs more. before_steps d more))))
-      (λ f. if_ok (sees m.DoubleColon ts) (λ _. none) (λ q. some (no_more (g.target_end (not_target ts h f q))))))
+      (λ f. if_ok (sees m.DoubleColon ts)
+      (λ q. then_ok (static_property_ok ts q)
+      (λ x us d. map_ok (target_steps_from_ok n (found ++ x ∷ []) us (omega (arith, step_shorter d)))
+      (λ all rest r. one_more r (λ xs more. before_steps d more))))
+      (λ q. some (no_more (g.target_end (not_target ts h f q))))))
 
   by_steps_ok : (x : Expr) (ts : List Token) → Gives (BySteps x ts) (p.by_steps below x ts)
   unfolding p.by_steps

@@ -1,5 +1,5 @@
 -- Operators, level by level: what is in the grammar is what the parser answers.
-use Rattle.std.specs.Prelude.{◌≡◌, ℕ, zero, suc, ◌<◌, ◌≤◌, true, false, List, [], ◌∷◌, ◌++◌, length, Some, None, nat_le, ◌==◌, refl}
+use Rattle.std.specs.Prelude.{◌≡◌, ℕ, zero, suc, ◌<◌, ◌≤◌, Bool, true, false, List, [], ◌∷◌, ◌++◌, length, Some, None, nat_le, ◌==◌, refl}
 use Rattle.std.proofs.Common.{ap, sym, ◌∙◌, inl, inr, arith, append_assoc, append-nil}
 use Rattle.std.proofs.lemmas.Bool.Decides.{nat_tests, leb_tells}
 use Rattle.hph_ast.specs.declared.token.Token.{Token}
@@ -25,12 +25,14 @@ use Rattle.hph_cursor.specs.Steps.{Parser, and_then, sees, is_mark}
 use Rattle.hph_cursor.specs.Next.{of_next, is_next, binary_of, operator_of, is_instance_of}
 use Rattle.hph_fexpr.specs.Classes.{by_expression}
 use Rattle.hph_fexpr.specs.Terms.{term}
+use Rattle.hph_fexpr.specs.Endings.{IsValue, expression, only_written}
 use Rattle.hph_fexpr.specs.Climb as p
 use Rattle.hph_fexpr.proofs.Tools.{then_is, choose_some, choose_none, if_true, if_false, mark_is, expect_is}
-use Rattle.hph_fexpr.proofs.Shorter.{expression_shorter, target_shorter}
+use Rattle.hph_cursor.proofs.Shorter.{expression_shorter, target_shorter}
 use Rattle.hph_fexpr.proofs.Firsts.{Complete, closed_is, not_first, not_seen, expression_heads, level_top}
 use Rattle.hph_fexpr.proofs.ClassesComplete.{named_class_is, target_is}
-use Rattle.hph_fexpr.proofs.TermsComplete.{stopped_is, term_is}
+use Rattle.hph_fexpr.proofs.TermsComplete.{term_is, written_only_is}
+use Rattle.hph_fexpr.proofs.Left.{skip, reached}
 
 -- ---- what comes next
 
@@ -194,27 +196,6 @@ module _ (laws : NestingLaws) (depth : ℕ) (below : Form → Parser Expr) (all 
 
   -- ---- all levels
 
-  skip : (least n l : ℕ) (x : Expr) (rest : List Token) → l ≤ n → least ≤ l → next rest < l →
-      p.climb below least n x rest ≡ p.climb below least l x rest
-  unfolding p.climb
-  skip least zero l x rest le low h = absurd (omega arith)
-  skip least (suc n) l x rest le low h = elim (leb_tells l n) [
-    | inl f ↦
-        let test : nat_le least n ≡ true = grind (arith, nat_tests, low, f.1) in
-        let other : (next rest == n) ≡ false = grind (arith, nat_tests, h, f.1) in
-        if_true _ _ test (if_false _ _ other (skip least n l x rest f.1 low h))
-    | inr f ↦ let same : suc n ≡ l = omega (arith, f.1) in ap (λ k. p.climb below least k x rest) same
-  ]
-
-  reached : (least n : ℕ) (x : Expr) (rest : List Token) → least ≤ suc n → next rest < least → p.climb below least n x rest ≡ Some (x, rest)
-  unfolding p.climb
-  reached least zero x rest le h = stopped_is least x rest h
-  reached least (suc n) x rest le h = elim (leb_tells least n) [
-    | inl f ↦ let other : (next rest == n) ≡ false = grind (arith, nat_tests, h, f.1) in
-        if_true _ _ f.0 (if_false _ _ other (reached least n x rest (omega (arith, f.1)) h))
-    | inr f ↦ if_false _ _ f.0 (stopped_is least x rest h)
-  ]
-
   -- a level at which the expression goes on
   here : (least n : ℕ) (x y : Expr) (mid rest : List Token) → least ≤ n → next mid ≡ n → p.longer below n x mid ≡ Some (y, rest) →
       p.climb below least (suc n) x mid ≡ p.climb below least n y rest
@@ -225,68 +206,77 @@ module _ (laws : NestingLaws) (depth : ℕ) (below : Form → Parser Expr) (all 
       if_true _ _ test (if_true _ _ same (then_is _ h refl))
 
   -- After an expression of a level, the levels below it are left.
-  spelled : (least : ℕ) {l : ℕ} {ts rest : List Token} {x : Expr} → IsExpression l ts x rest → least ≤ l → l ≤ top → next rest < l →
+  spelled : (alone : Bool) (least : ℕ) {l : ℕ} {ts rest : List Token} {x : Expr} → IsExpression l ts x rest → least ≤ l → l ≤ top → next rest < l →
       nesting x ≤ suc depth →
-      and_then (term depth below ts) (p.climb below least top) ≡ p.climb below least l x rest
-  spelled least {l = l} (g.term {rest = rest} {x = x} d) low high h small =
-      then_is _ (term_is laws depth below all d small (omega arith)) (skip least top l x rest high low h)
-  spelled least {l = l} (g.run {rest = rest} {x = x} le how d
+      and_then (term depth below alone ts) (p.climb below least top) ≡ p.climb below least l x rest
+  spelled alone least {l = l} (g.term {rest = rest} {x = x} d) low high h small =
+      then_is _ (term_is laws depth below all alone d small (omega arith)) (skip below least top l x rest high low h)
+  spelled alone least {l = l} (g.run {rest = rest} {x = x} le how d
       (g.operand {ts = ts} {t = t} {op = op} {x = y} {os = os} is lv f more)) low high h small =
       let at = span (place x) (last_operand (place x) ((op, y) ∷ os)) in
       let n = laws.run at x ((op, y) ∷ os) in
       let nx : next (t ∷ ts) ≡ level op = ap binds is in
       let run = e.Run at x ((op, y) ∷ os) in
-      spelled least d (omega arith) (level_top op) (omega arith) (omega arith)
+      spelled alone least d (omega arith) (level_top op) (omega arith) (omega arith)
       ∙ here least (level op) x run (t ∷ ts) rest (omega arith) nx
       (longer_operator (level op) x t ts op Left is how
       (run_is (level op) x (g.operand is lv f more) (omega arith) (level_top op) (omega arith)))
-      ∙ skip least (level op) l run rest le low h
-  spelled least {l = l} (g.to_right {mid = mid} {rest = rest} {t = t} {op = op} {x = x} {y = y} le how d is f) low high h small =
+      ∙ skip below least (level op) l run rest le low h
+  spelled alone least {l = l} (g.to_right {mid = mid} {rest = rest} {t = t} {op = op} {x = x} {y = y} le how d is f) low high h small =
       let at = span (place x) (place y) in
       let n = laws.pair at op x y in
       let nx : next (t ∷ mid) ≡ level op = ap binds is in
       let lt = level_top op in
-      spelled least d (omega arith) (level_top op) (omega arith) (omega arith)
+      spelled alone least d (omega arith) (level_top op) (omega arith) (omega arith)
       ∙ here least (level op) x (e.Pair at op x y) (t ∷ mid) rest (omega arith) nx
       (longer_operator (level op) x t mid op Right is how (pair_is x op (level op) t (omega arith) f (omega arith) (omega arith)))
-      ∙ skip least (level op) l (e.Pair at op x y) rest le low h
-  spelled least {l = l} (g.single {mid = mid} {rest = rest} {t = t} {op = op} {x = x} {y = y} le how d is f) low high h small =
+      ∙ skip below least (level op) l (e.Pair at op x y) rest le low h
+  spelled alone least {l = l} (g.single {mid = mid} {rest = rest} {t = t} {op = op} {x = x} {y = y} le how d is f) low high h small =
       let at = span (place x) (place y) in
       let n = laws.pair at op x y in
       let nx : next (t ∷ mid) ≡ level op = ap binds is in
-      spelled least d (omega arith) (level_top op) (omega arith) (omega arith)
+      spelled alone least d (omega arith) (level_top op) (omega arith) (omega arith)
       ∙ here least (level op) x (e.Pair at op x y) (t ∷ mid) rest (omega arith) nx
       (longer_operator (level op) x t mid op Alone is how
       (pair_is x op (suc (level op)) t (level_top op) f (omega arith) (omega arith)))
-      ∙ skip least (level op) l (e.Pair at op x y) rest le low h
-  spelled least {l = l} (g.instance_of {mid = mid} {rest = rest} {x = x} {class = class} {classes = classes} le d more) low high h small =
+      ∙ skip below least (level op) l (e.Pair at op x y) rest le low h
+  spelled alone least {l = l} (g.instance_of {mid = mid} {rest = rest} {x = x} {class = class} {classes = classes} le d more) low high h small =
       let at = span (place x) (last_class (place x) (class ∷ classes)) in
       let n = laws.instance_of at x (class ∷ classes) in
       let nx = instances_next more in
-      spelled least d (omega arith) (omega arith) (omega arith) (omega arith)
+      spelled alone least d (omega arith) (omega arith) (omega arith) (omega arith)
       ∙ here least instance_level x (e.InstanceOf at x (class ∷ classes)) mid rest (omega arith) nx
       (instances_longer x more (omega arith) (omega arith))
-      ∙ skip least instance_level l (e.InstanceOf at x (class ∷ classes)) rest le low h
-  spelled least {l = l} (g.ternary {mid = mid} {rest = rest} {q = q} {x = x} {y = y} {z = z} le d question first colon second) low high h small =
+      ∙ skip below least instance_level l (e.InstanceOf at x (class ∷ classes)) rest le low h
+  spelled alone least {l = l} (g.ternary {mid = mid} {rest = rest} {q = q} {x = x} {y = y} {z = z} le d question first colon second) low high h small =
       let at = span (place x) (place z) in
       let n = laws.ternary at x y z in
       let nx : next (q ∷ mid) ≡ ternary_level = ap binds question in
-      spelled least d (omega arith) (omega arith) (omega arith) (omega arith)
+      spelled alone least d (omega arith) (omega arith) (omega arith) (omega arith)
       ∙ here least ternary_level x (e.Ternary at x y z) (q ∷ mid) rest (omega arith) nx
       (longer_question ternary_level x q mid question (ternary_is x q first colon second (omega arith) (omega arith) (omega arith)))
-      ∙ skip least ternary_level l (e.Ternary at x y z) rest le low h
-  spelled least {l = l} (g.short {rest = rest} {x = x} le d
+      ∙ skip below least ternary_level l (e.Ternary at x y z) rest le low h
+  spelled alone least {l = l} (g.short {rest = rest} {x = x} le d
       (g.shorts_more {ts = ts} {q = q} {c = c} {x = y} {xs = ys} question colon first more)) low high h small =
       let at = span (place x) (last_expr (place x) (y ∷ ys)) in
       let n = laws.short_ternary at x (y ∷ ys) in
       let nx : next (q ∷ c ∷ ts) ≡ ternary_level = ap binds question in
-      spelled least d (omega arith) (omega arith) (omega arith) (omega arith)
+      spelled alone least d (omega arith) (omega arith) (omega arith) (omega arith)
       ∙ here least ternary_level x (e.ShortTernary at x (y ∷ ys)) (q ∷ c ∷ ts) rest (omega arith) nx
       (longer_question ternary_level x q (c ∷ ts) question (short_is x q c colon first more (omega arith) (omega arith) (omega arith)))
-      ∙ skip least ternary_level l (e.ShortTernary at x (y ∷ ys)) rest le low h
+      ∙ skip below least ternary_level l (e.ShortTernary at x (y ∷ ys)) rest le low h
 
   pub one_level_is : (l : ℕ) (ts rest : List Token) (x : Expr) → l ≤ top → IsExpression l ts x rest → nesting x ≤ suc depth → Stops l rest →
       p.one_level below depth l ts ≡ Some (x, rest)
-  unfolding p.one_level
+  unfolding p.one_level p.climbed
   one_level_is l ts rest x high d small stops =
-      spelled l d (omega arith) high stops.below small ∙ reached l l x rest (omega arith) stops.below
+      spelled false l d (omega arith) high stops.below small ∙ reached below l l x rest (omega arith) stops.below
+
+  pub one_element_is : {ts rest : List Token} {x : Expr} → IsValue ts x rest → nesting x ≤ suc depth → Stops 1 rest →
+      p.one_element below depth ts ≡ Some (x, rest)
+  unfolding p.one_element p.climbed
+  one_element_is {rest = rest} {x = x} (expression d) small stops =
+      spelled true 1 d (omega arith) (omega arith) stops.below small ∙ reached below 1 1 x rest (omega arith) stops.below
+  one_element_is {rest = rest} {x = x} (only_written d) small stops =
+      then_is _ (written_only_is laws depth below all d small stops.below)
+      (skip below 1 top 1 x rest (omega arith) (omega arith) stops.below ∙ reached below 1 1 x rest (omega arith) stops.below)

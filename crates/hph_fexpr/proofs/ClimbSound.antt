@@ -1,5 +1,5 @@
 -- Operators, level by level: what the parser answers is in the grammar.
-use Rattle.std.specs.Prelude.{◌≡◌, ℕ, zero, suc, ◌<◌, ◌≤◌, true, List, [], ◌∷◌, ◌++◌, length, Option, Some, None, if◌then◌else◌, refl, nat_le, ◌==◌}
+use Rattle.std.specs.Prelude.{◌≡◌, ℕ, zero, suc, ◌<◌, ◌≤◌, true, false, List, [], ◌∷◌, ◌++◌, length, Option, Some, None, if◌then◌else◌, refl, nat_le, ◌==◌}
 use Rattle.std.proofs.Common.{ap, sym, subst, ◌∙◌, inl, inr, arith}
 use Rattle.std.proofs.lemmas.Option.{cond_some}
 use Rattle.std.proofs.lemmas.Bool.Decides.{nat_tests, leb_tells}
@@ -21,14 +21,15 @@ use Rattle.hph_ast.specs.Expressions as g
 use Rattle.hph_ast.specs.Expressions.{IsExpression, IsTail, IsShorts, IsInstances, IsTerm}
 use Rattle.hph_fexpr.specs.declared.form.Form.{Form}
 use Rattle.hph_fexpr.specs.declared.form.Form.TheVariants.{Level}
-use Rattle.hph_fexpr.specs.Endings.{Whole}
+use Rattle.hph_fexpr.specs.Endings.{Whole, WholeValue, expression, only_written}
 use Rattle.hph_cursor.specs.Steps.{Parser, is_mark}
 use Rattle.hph_cursor.specs.Next.{binary_of, operator_of, is_instance_of}
 use Rattle.hph_fexpr.specs.Terms.{stopped}
 use Rattle.hph_fexpr.specs.Climb as p
 use Rattle.hph_fexpr.proofs.Tools.{some_inj, is_mark_true, Gives, none, some, then_ok, map_ok, choose_ok, if_ok, sees_at, choose_at, next_at, expect_at, expect_with, Sound, More, no_more, one_more}
 use Rattle.hph_fexpr.proofs.ClassesSound.{Refers, by_name, by_target, class_reference_ok}
-use Rattle.hph_fexpr.proofs.TermsSound.{stopped_ok, term_ok}
+use Rattle.hph_fexpr.proofs.TermsSound.{Used, a_term, an_element, stopped_ok, term_ok}
+use Rattle.hph_fexpr.proofs.Left.{skip, reached}
 
 -- what stands at a level stands at each looser one
 weaker : {l n : ℕ} {ts rest : List Token} {x : Expr} → n ≤ l → IsExpression l ts x rest → IsExpression n ts x rest
@@ -74,6 +75,11 @@ record Classes (ts : List Token) (all : List ClassReference) (rest : List Token)
   others : List ClassReference
   is_all : all ≡ first ∷ others
   is : IsInstances ts (first ∷ others) rest
+
+-- where no element may stand alone, it is a term
+the_term : {ts rest : List Token} {x : Expr} → Used false ts x rest → IsTerm ts x rest
+the_term (a_term d) = d
+the_term (an_element is d stops) = absurd (cc)
 
 module _ (below : Form → Parser Expr) (ok : Sound below) where
   operands_from_ok : (n turns : ℕ) (found : List (Binary × Expr)) (ts : List Token) →
@@ -230,5 +236,16 @@ module _ (below : Form → Parser Expr) (ok : Sound below) where
       elim (leb_tells least n) [ inl h ↦ climb_ok least n x ts mid h.1 (g.term d) | inr h ↦ climb_none least n x ts mid h.1 d ]
 
   pub one_level_ok : (links least : ℕ) (ts : List Token) → Gives (Whole least ts) (p.one_level below links least ts)
-  unfolding p.one_level
-  one_level_ok links least ts = then_ok (term_ok links below ok ts) (λ x mid d. climb_any least top x ts mid d)
+  unfolding p.one_level p.climbed
+  one_level_ok links least ts = then_ok (term_ok links below ok false ts) (λ x mid d. climb_any least top x ts mid (the_term d))
+
+  climb_used : (ts mid : List Token) (x : Expr) → Used true ts x mid → Gives (WholeValue ts) (p.climb below 1 top x mid)
+  climb_used ts mid x (a_term d) = map_ok (climb_any 1 top x ts mid d) (λ y rest w. record { is = expression w.is; stops = w.stops })
+  climb_used ts mid x (an_element is d stops) =
+      subst (λ o. Gives (WholeValue ts) o)
+      (sym (skip below 1 top 1 x mid (omega arith) (omega arith) stops.below ∙ reached below 1 1 x mid (omega arith) stops.below))
+      (some (record { is = only_written d; stops = stops }))
+
+  pub one_element_ok : (links : ℕ) (ts : List Token) → Gives (WholeValue ts) (p.one_element below links ts)
+  unfolding p.one_element p.climbed
+  one_element_ok links ts = then_ok (term_ok links below ok true ts) (λ x mid d. climb_used ts mid x d)

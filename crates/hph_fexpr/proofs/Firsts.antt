@@ -20,10 +20,10 @@ use Rattle.hph_ast.specs.Nesting.{nesting}
 use Rattle.hph_ast.specs.Terminals as terminal
 use Rattle.hph_ast.specs.Terminals.{IsMark, IsClass, IsPreUpdate, IsExit}
 use Rattle.hph_ast.specs.Expressions as g
-use Rattle.hph_ast.specs.Expressions.{IsExpression, IsTerm, IsPostfix, IsPrimary, IsArgument, IsItem, IsPaths}
+use Rattle.hph_ast.specs.Expressions.{IsExpression, IsTerm, IsPostfix, IsPrimary, IsArgument, IsItem, IsElement, IsWrittenOnly, IsPaths}
 use Rattle.hph_fexpr.specs.declared.form.Form.{Form}
-use Rattle.hph_fexpr.specs.declared.form.Form.TheVariants.{Level, Postfix}
-use Rattle.hph_fexpr.specs.Endings.{Ends}
+use Rattle.hph_fexpr.specs.declared.form.Form.TheVariants.{Level, Postfix, Element}
+use Rattle.hph_fexpr.specs.Endings.{Ends, IsValue, expression, only_written}
 use Rattle.hph_cursor.specs.Steps.{Parser, is_mark, sees}
 use Rattle.hph_cursor.specs.Next.{is_next, pre_update_of, is_ampersand}
 use Rattle.hph_fexpr.proofs.Tools.{not_mark}
@@ -149,6 +149,20 @@ item_not_first m none (g.pair d arrow f) = not_first m none (expression_heads d)
 item_not_first m none (g.reference is d source) = ap (is_mark m) is
 item_not_first m none (g.pair_reference d arrow is f source) = not_first m none (expression_heads d)
 
+pub written_only_heads : {ts rest : List Token} {x : Expr} → IsWrittenOnly ts x rest → Heads ts
+written_only_heads (g.appended d unread is) = postfix_heads d
+written_only_heads (g.nested_targets is d has) = heads (ap begins_none is)
+
+pub value_heads : {ts rest : List Token} {x : Expr} → IsValue ts x rest → Heads ts
+value_heads (expression d) = expression_heads d
+value_heads (only_written d) = written_only_heads d
+
+pub element_not_first : (m : Mark) → begins_none (k.Mark m) ≡ true → {ts rest : List Token} {x : Item} → IsElement ts x rest →
+    sees m ts ≡ false
+element_not_first m none (g.element_item d) = item_not_first m none d
+element_not_first m none (g.element d) = not_first m none (written_only_heads d)
+element_not_first m none (g.element_pair d arrow f) = not_first m none (expression_heads d)
+
 -- ---- what follows
 
 pub not_seen : (m : Mark) (ts : List Token) → next ts < binds (k.Mark m) → sees m ts ≡ false
@@ -197,6 +211,7 @@ pub record Complete (depth : ℕ) (below : Form → Parser Expr) : Type 0 where
   pub level : (l : ℕ) (ts rest : List Token) (x : Expr) → l ≤ top → IsExpression l ts x rest → nesting x ≤ depth → Stops l rest →
       below (Level l) ts ≡ Some (x, rest)
   pub postfix : (ts rest : List Token) (x : Expr) → IsPostfix ts x rest → nesting x ≤ depth → Ends rest → below Postfix ts ≡ Some (x, rest)
+  pub element : (ts rest : List Token) (x : Expr) → IsValue ts x rest → nesting x ≤ depth → Stops 1 rest → below Element ts ≡ Some (x, rest)
 
 -- an expression and then a mark that binds nothing
 pub closed_is : {depth : ℕ} {below : Form → Parser Expr} → Complete depth below → (m : Mark) → binds (k.Mark m) ≡ 0 →

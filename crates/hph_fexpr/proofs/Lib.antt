@@ -1,6 +1,7 @@
 pub mod Tools
-pub mod Shorter
 pub mod ListsSound
+pub mod Written
+pub mod Left
 pub mod ArraysSound
 pub mod StringsSound
 pub mod ClassesSound

@@ -22,7 +22,7 @@ use Rattle.hph_cursor.specs.Steps.{Parser, sees, is_mark}
 use Rattle.hph_cursor.specs.Next.{name_before, argument_name}
 use Rattle.hph_fexpr.specs.Lists as p
 use Rattle.hph_fexpr.proofs.Tools.{some_inj, then_is, choose_some, choose_none, if_true, if_false, mark_is, expect_is, opens_sees}
-use Rattle.hph_fexpr.proofs.Shorter.{postfix_shorter, argument_shorter, arguments_shorter}
+use Rattle.hph_cursor.proofs.Shorter.{postfix_shorter, argument_shorter, arguments_shorter}
 use Rattle.hph_fexpr.proofs.Firsts.{Complete, mark_ends, mark_stops, not_first, argument_heads, paths_heads}
 use Rattle.hph_fexpr.proofs.NestingGrows.{expression_positive}
 use Rattle.hph_fexpr.proofs.ListsSound.{name_before_ok}

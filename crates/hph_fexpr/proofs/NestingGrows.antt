@@ -3,7 +3,7 @@ use Rattle.std.specs.Prelude.{ℕ, suc, ◌≤◌, List, [], ◌∷◌}
 use Rattle.std.proofs.Common.{arith}
 use Rattle.hph_ast.specs.declared.token.Token.{Token}
 use Rattle.hph_ast.specs.declared.expr.Expr.{Expr}
-use Rattle.hph_ast.specs.declared.expr.ArrayForm.TheVariants.{Short, Long}
+use Rattle.hph_ast.specs.declared.expr.ArrayForm.TheVariants.{Short, Long, Targets}
 use Rattle.hph_ast.specs.declared.expr.ClassReference.{ClassReference}
 use Rattle.hph_ast.specs.declared.expr.ClassReference.TheVariants as c
 use Rattle.hph_ast.specs.declared.expr.Step.{Step}
@@ -13,6 +13,7 @@ use Rattle.hph_ast.specs.Places.{place, class_place, on, span, last_operand, las
 use Rattle.hph_ast.specs.Expressions as g
 use Rattle.hph_ast.specs.Expressions.{IsExpression, IsTerm, IsPostfix, IsPrimary, IsScoped, GoesOn, GoesOnByCall}
 use Rattle.hph_fexpr.specs.NestingLaws.{NestingLaws}
+use Rattle.hph_fexpr.specs.Endings.{IsValue, expression, only_written}
 
 module _ (laws : NestingLaws) where
   pub with_steps_deep : (x : Expr) (ss : List Step) → nesting x ≤ nesting (with_steps x ss)
@@ -103,3 +104,9 @@ module _ (laws : NestingLaws) where
   expression_positive (g.ternary {x = x} {y = y} {z = z} le d q e c f) = omega (arith, laws.ternary (span (place x) (place z)) x y z)
   expression_positive (g.short {x = x} {y = y} {ys = ys} le d more) =
       omega (arith, laws.short_ternary (span (place x) (last_expr (place x) (y ∷ ys))) x (y ∷ ys))
+
+  pub value_positive : {ts rest : List Token} {x : Expr} → IsValue ts x rest → 1 ≤ nesting x
+  value_positive (expression d) = expression_positive d
+  value_positive (only_written (g.appended d unread is)) = postfix_positive d
+  value_positive (only_written (g.nested_targets {o = o} {c = c} {items = items} opens d has)) =
+      omega (arith, laws.array (span (on o) (on c)) Targets items)

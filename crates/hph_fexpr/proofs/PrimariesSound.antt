@@ -38,14 +38,14 @@ not_true : (x : Bool) → not x ≡ true → x ≡ false
 not_true false h = refl
 not_true true h = absurd (cc)
 
--- elements without a hole as an array
+-- elements of which none stands in a destructuring alone, as an array
 pub array_ok : (closing : Mark) (t : Token) (form : ArrayForm) (ts us mid : List Token) (r : Elements) → Found closing [] false us r mid →
     ((xs : List Item) (c : Token) → IsItems closing us xs c mid → IsPrimary ts (e.Array (span (on t) (on c)) form xs) mid) →
     Gives (IsPrimary ts) (array_of t form r mid)
-array_ok closing t form ts us mid r f h = if_ok (not r.holes)
+array_ok closing t form ts us mid r f h = if_ok (not r.targets)
     (λ shut. some (subst (λ xs. IsPrimary ts (e.Array (span (on t) r.close) form xs) mid) (sym f.is_all)
     (subst (λ last. IsPrimary ts (e.Array (span (on t) last) form f.xs) mid) (sym f.is_close)
-    (h f.xs f.close (f.as_items (not_true r.holes shut))))))
+    (h f.xs f.close (f.as_items (not_true r.targets shut))))))
     (λ _. none)
 
 module _ (below : Form → Parser Expr) (ok : Sound below) where

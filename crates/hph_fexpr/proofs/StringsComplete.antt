@@ -19,7 +19,7 @@ use Rattle.hph_cursor.specs.Steps.{Parser, sees, is_mark}
 use Rattle.hph_cursor.specs.Next.{is_variable}
 use Rattle.hph_fexpr.specs.Strings as p
 use Rattle.hph_fexpr.proofs.Tools.{then_is, choose_some, choose_none, if_true, if_false, mark_is, expect_is}
-use Rattle.hph_fexpr.proofs.Shorter.{interpolation_shorter, parts_shorter}
+use Rattle.hph_cursor.proofs.Shorter.{interpolation_shorter, parts_shorter}
 use Rattle.hph_fexpr.proofs.Firsts.{Complete, closed_is}
 
 key_is : {q : Token} (us : List Token) {x : Expr} → IsKey q x → p.key (q ∷ us) ≡ Some (x, us)

@@ -1,5 +1,5 @@
 -- Terms: what is in the grammar is what the parser answers.
-use Rattle.std.specs.Prelude.{◌≡◌, ℕ, suc, ◌<◌, ◌≤◌, Bool, true, false, ◌&&◌, List, [], ◌∷◌, Some, None, nat_lt, refl}
+use Rattle.std.specs.Prelude.{◌≡◌, ℕ, suc, ◌<◌, ◌≤◌, Bool, true, false, ◌&&◌, ◌||◌, List, [], ◌∷◌, Some, None, nat_lt, refl}
 use Rattle.std.proofs.Common.{ap, ◌∙◌, arith}
 use Rattle.std.proofs.lemmas.Bool.Decides.{nat_tests}
 use Rattle.hph_ast.specs.declared.token.At.{At}
@@ -11,7 +11,7 @@ use Rattle.hph_ast.specs.declared.operator.Assignment.TheVariants as a
 use Rattle.hph_ast.specs.declared.expr.Expr.{Expr, out-Expr}
 use Rattle.hph_ast.specs.declared.expr.Expr.TheVariants as e
 use Rattle.hph_ast.specs.declared.expr.ArrayForm.{ArrayForm}
-use Rattle.hph_ast.specs.declared.expr.ArrayForm.TheVariants.{Short}
+use Rattle.hph_ast.specs.declared.expr.ArrayForm.TheVariants.{Short, Targets}
 use Rattle.hph_ast.specs.declared.expr.Item.{Item}
 use Rattle.hph_ast.specs.declared.expr.Step.{Step}
 use Rattle.hph_ast.specs.declared.expr.Update.{Update}
@@ -19,22 +19,23 @@ use denote.Hole.Carrier.{out}
 use Rattle.hph_ast.specs.Levels.{update_level, prefix_level, prefix_of, assign_level, top, binds, next}
 use Rattle.hph_ast.specs.Nesting.{nesting}
 use Rattle.hph_ast.specs.Places.{place, on, span}
-use Rattle.hph_ast.specs.Shapes.{is_written}
+use Rattle.hph_ast.specs.Shapes.{is_read, is_written}
 use Rattle.hph_ast.specs.Terminals as terminal
 use Rattle.hph_ast.specs.Terminals.{IsMark, IsClass, IsExit, IsPreUpdate, IsPostUpdate}
 use Rattle.hph_ast.specs.Expressions as g
-use Rattle.hph_ast.specs.Expressions.{IsTerm, IsPostfix, IsPrimary, IsItems, IsSteps, GoesOn}
+use Rattle.hph_ast.specs.Expressions.{IsTerm, IsPostfix, IsPrimary, IsItems, IsSteps, GoesOn, IsWrittenOnly}
 use Rattle.hph_fexpr.specs.NestingLaws.{NestingLaws}
 use Rattle.hph_fexpr.specs.declared.form.Form.{Form}
 use Rattle.hph_fexpr.specs.Endings.{Ends}
 use Rattle.hph_cursor.specs.Steps.{Parser, sees, is_mark}
 use Rattle.hph_cursor.specs.Next.{of_next, is_next, assignment_of, pre_update_of, post_update_of, is_set, is_set_kind, is_ampersand}
 use Rattle.hph_fexpr.specs.Terms as p
-use Rattle.hph_fexpr.proofs.Tools.{then_is, choose_some, choose_none, if_true, if_false, mark_is}
+use Rattle.hph_fexpr.proofs.Tools.{or_true, and_none, then_is, choose_some, choose_none, if_true, if_false, mark_is}
 use Rattle.hph_fexpr.proofs.Firsts.{Complete, ends_by, ends_at, no_ampersand, expression_heads, Begins, begins, postfix_begins, prefix_top}
 use Rattle.hph_fexpr.proofs.ArraysComplete.{bracket_closes, items_is, targets_is}
 use Rattle.hph_fexpr.proofs.NestingGrows.{goes_on_deep}
 use Rattle.hph_fexpr.proofs.PostfixComplete.{goes_on_is, postfix_is}
+use Rattle.hph_fexpr.proofs.Left.{stopped_is}
 
 -- ---- first tokens
 
@@ -110,13 +111,16 @@ array_set at items (g.no_steps (g.call_of read callable opens args more)) sets =
 array_set at items (g.no_steps (g.member_of read class colons d more)) sets = ap is_set_kind colons
 array_set at items (g.path ss d) sets = steps_set ss
 
-no_set : (x : Expr) (rest : List Token) → next rest < top → Sets x rest
-no_set x [] h f = absurd (cc)
-no_set x (t ∷ ts) h f = absurd (go t.kind h f)
+no_set_next : (rest : List Token) → next rest < top → is_next is_set_kind rest ≡ false
+no_set_next [] h = refl
+no_set_next (t ∷ ts) h = go t.kind h
   where
-    go : (kind : Kind) → binds kind < top → is_set_kind kind ≡ true → ⊥
-    go (k.Assign op) h f = omega arith
-    go _ h f = cc
+    go : (kind : Kind) → binds kind < top → is_set_kind kind ≡ false
+    go (k.Assign op) h = absurd (omega arith)
+    go _ h = refl
+
+no_set : (x : Expr) (rest : List Token) → next rest < top → Sets x rest
+no_set x rest h f = absurd (let e = no_set_next rest h in cc)
 
 no_assignment : (rest : List Token) → next rest < top → of_next assignment_of rest ≡ None
 no_assignment [] h = refl
@@ -134,9 +138,6 @@ no_update (t ∷ ts) h = go t.kind h
     go (k.Mark m.Increment) h = absurd (omega arith)
     go (k.Mark m.Decrement) h = absurd (omega arith)
     go _ h = refl
-
-pub stopped_is : {A : Type 0} (n : ℕ) (x : A) (rest : List Token) → next rest < n → p.stopped n x rest ≡ Some (x, rest)
-stopped_is n x rest h = let test : nat_lt (next rest) n ≡ true = grind (arith, nat_tests, h) in if_true _ _ test refl
 
 and_false : (x y : Bool) → y ≡ false → (x && y) ≡ false
 and_false true y h = h
@@ -162,38 +163,39 @@ pre_update_prefix : {t : Token} {form : Update} → IsPreUpdate t form → prefi
 pre_update_prefix (terminal.pre_increment is) = ap prefix_of is
 pre_update_prefix (terminal.pre_decrement is) = ap prefix_of is
 
-module _ (laws : NestingLaws) (depth : ℕ) (below : Form → Parser Expr) (all : Complete depth below) where
+module _ (laws : NestingLaws) (depth : ℕ) (below : Form → Parser Expr) (all : Complete depth below) (alone : Bool) where
   by_opening : {ts mid rest : List Token} {x y : Expr} → IsPostfix ts y rest → Opening ts x mid → GoesOn x mid y rest →
       nesting y ≤ suc depth → Ends rest → Sets y rest →
-      p.operand depth below ts ≡ p.path_used depth below y rest
-  unfolding p.bracketed p.from_array
+      p.operand depth below alone ts ≡ p.path_used depth below alone y rest
+  unfolding p.bracketed p.undestructured p.from_array
   by_opening {mid = mid} whole (an_array {o = o} {c = c} {items = items} opens d) more small ends sets =
       let n = laws.array (span (on o) (on c)) Short items in
       let deep = goes_on_deep laws more in
       if_true _ _ (mark_is m.OpenBracket opens)
       (then_is _ (items_is laws depth below all m.CloseBracket bracket_closes d (omega arith))
       (if_false _ _ (array_set (span (on o) (on c)) items more sets)
-      (then_is _ (goes_on_is laws depth below all more (omega arith) small ends) refl)))
+      (if_false _ _ (and_none alone) (then_is _ (goes_on_is laws depth below all more (omega arith) small ends) refl))))
   by_opening whole (another shut) more small ends sets =
       if_false _ _ shut (then_is _ (postfix_is laws depth below all whole small ends) refl)
 
   operand_is : {ts rest : List Token} {x : Expr} → IsPostfix ts x rest → nesting x ≤ suc depth → Ends rest → Sets x rest →
-      p.operand depth below ts ≡ p.path_used depth below x rest
+      p.operand depth below alone ts ≡ p.path_used depth below alone x rest
   operand_is (g.primary d more) small ends sets = by_opening (g.primary d more) (opening d) more small ends sets
 
   -- a term that begins with a path
   path_first : {ts rest : List Token} {x : Expr} {z : _} → IsPostfix ts x rest → nesting x ≤ suc depth → Ends rest → Sets x rest →
-      p.path_used depth below x rest ≡ z → p.term depth below ts ≡ z
+      p.path_used depth below alone x rest ≡ z → p.term depth below alone ts ≡ z
   unfolding p.term
   path_first d small ends sets h =
       choose_none _ _ (begins_prefix (postfix_begins d))
       (choose_none _ _ (begins_update (postfix_begins d)) (operand_is d small ends sets ∙ h))
 
   pub term_is : {ts rest : List Token} {x : Expr} → IsTerm ts x rest → nesting x ≤ suc depth → next rest < top →
-      p.term depth below ts ≡ Some (x, rest)
+      p.term depth below alone ts ≡ Some (x, rest)
   unfolding p.term p.path_used p.post_updated p.assigned p.bound p.valued_by p.pre_updated p.bracketed p.destructured p.prefixed
   term_is (g.postfix {rest = rest} {x = x} d read) small h = path_first d small (ends_by h) (no_set x rest h)
-      (choose_none _ _ (no_update rest h) (choose_none _ _ (no_assignment rest h) (if_true _ _ read refl)))
+      (choose_none _ _ (no_update rest h) (choose_none _ _ (no_assignment rest h)
+      (if_true _ _ (ap (λ b. (alone && (is_written x && nat_lt (next rest) 1)) || b) read ∙ or_true (alone && (is_written x && nat_lt (next rest) 1))) refl)))
   term_is (g.updated {rest = rest} {t = t} {form = form} {x = x} d written is) small h =
       let n = laws.update (span (place x) (on t)) form x in
       path_first d (omega arith) (update_ends is) (λ f. written) (choose_some _ _ (update_next is) (if_true _ _ written refl))
@@ -218,11 +220,29 @@ module _ (laws : NestingLaws) (depth : ℕ) (below : Form → Parser Expr) (all 
       (if_true _ _ source (stopped_is (suc assign_level) (e.AssignReference (span (place x) (place y)) x y q.start) rest low)))))))
   term_is (g.destructure {mid = mid} {rest = rest} {o = o} {t = t} {items = items} {y = y} opens targets is f stops) small h =
       let n = laws.destructure (span (on o) (place y)) items y in
-      let r = targets_is laws depth below all targets (omega arith) in
       choose_none _ _ (ap prefix_of opens)
-      (choose_none _ _ (ap pre_update_of opens) (if_true _ _ (mark_is m.OpenBracket opens) (then_is _ r.is
-      (if_true _ _ (ap is_set_kind is) (then_is _ (all.level (suc assign_level) mid rest y (omega arith) f (omega arith) stops)
-      (ap (λ xs. Some (e.Destructure (span (on o) (place y)) xs y, rest)) r.items_are))))))
+      (choose_none _ _ (ap pre_update_of opens) (if_true _ _ (mark_is m.OpenBracket opens) (then_is _ (targets_is laws depth below all targets (omega arith))
+      (if_true _ _ (ap is_set_kind is) (then_is _ (all.level (suc assign_level) mid rest y (omega arith) f (omega arith) stops) refl)))))
   term_is (g.prefix {ts = ts} {rest = rest} {t = t} {op = op} {x = x} is f stops) small h =
       let n = laws.prefix (span (on t) (place x)) op x in
       choose_some _ _ is (then_is _ (all.level (suc (prefix_level op)) ts rest x (prefix_top op) f (omega arith) stops) refl)
+
+module _ (laws : NestingLaws) (depth : ℕ) (below : Form → Parser Expr) (all : Complete depth below) where
+  -- what is only written, where an element may stand alone
+  pub written_only_is : {ts rest : List Token} {x : Expr} → IsWrittenOnly ts x rest → nesting x ≤ suc depth → next rest < 1 →
+      p.term depth below true ts ≡ Some (x, rest)
+  unfolding p.term p.path_used p.bracketed p.undestructured
+  written_only_is (g.appended {rest = rest} {x = x} d unread written) small h =
+      let low : next rest < top = omega arith in
+      let ends : nat_lt (next rest) 1 ≡ true = grind (arith, nat_tests, h) in
+      let both : ((true && (is_written x && nat_lt (next rest) 1)) || is_read x) ≡ true =
+          ap (λ b. (b && nat_lt (next rest) 1) || is_read x) written ∙ ap (λ b. b || is_read x) ends in
+      path_first laws depth below all true d small (ends_by low) (no_set x rest low)
+      (choose_none _ _ (no_update rest low) (choose_none _ _ (no_assignment rest low) (if_true _ _ both refl)))
+  written_only_is (g.nested_targets {rest = rest} {o = o} {c = c} {items = items} opens d has) small h =
+      let n = laws.array (span (on o) (on c)) Targets items in
+      let low : next rest < top = omega arith in
+      let ends : nat_lt (next rest) 1 ≡ true = grind (arith, nat_tests, h) in
+      choose_none _ _ (ap prefix_of opens) (choose_none _ _ (ap pre_update_of opens) (if_true _ _ (mark_is m.OpenBracket opens)
+      (then_is _ (targets_is laws depth below all d (omega arith)) (if_false _ _ (no_set_next rest low)
+      (if_true _ _ (ap (λ b. b && nat_lt (next rest) 1) has ∙ ends) refl)))))

@@ -1,5 +1,5 @@
 -- Terms: what the parser answers is in the grammar.
-use Rattle.std.specs.Prelude.{◌≡◌, ℕ, suc, true, false, ◌&&◌, List, [], ◌∷◌, Some, None, if◌then◌else◌, nat_lt, refl}
+use Rattle.std.specs.Prelude.{◌≡◌, ℕ, suc, Bool, true, false, ◌&&◌, ◌||◌, List, [], ◌∷◌, Some, None, if◌then◌else◌, nat_lt, refl}
 use Rattle.std.proofs.Common.{ap, sym, subst, ◌∙◌, arith}
 use Rattle.std.proofs.lemmas.Bool.Decides.{nat_tests}
 use Rattle.hph_ast.specs.declared.token.Token.{Token}
@@ -12,21 +12,21 @@ use Rattle.hph_ast.specs.declared.operator.Assignment.TheVariants as a
 use Rattle.hph_ast.specs.declared.expr.Expr.{Expr}
 use Rattle.hph_ast.specs.declared.expr.Expr.TheVariants as e
 use Rattle.hph_ast.specs.declared.expr.Update.{Update}
-use Rattle.hph_ast.specs.declared.expr.ArrayForm.TheVariants.{Short}
+use Rattle.hph_ast.specs.declared.expr.ArrayForm.TheVariants.{Short, Targets}
 use Rattle.hph_ast.specs.Levels.{update_level, prefix_level, prefix_of, assign_level, next, Stops}
 use Rattle.hph_ast.specs.Places.{place, on, span}
 use Rattle.hph_ast.specs.Shapes.{is_read, is_written, is_source}
 use Rattle.hph_ast.specs.Terminals as terminal
 use Rattle.hph_ast.specs.Terminals.{IsMark, IsPreUpdate, IsPostUpdate}
 use Rattle.hph_ast.specs.Expressions as g
-use Rattle.hph_ast.specs.Expressions.{IsExpression, IsTerm, IsPostfix, IsTargets}
+use Rattle.hph_ast.specs.Expressions.{IsExpression, IsTerm, IsPostfix, IsTargets, IsWrittenOnly}
 use Rattle.hph_fexpr.specs.declared.form.Form.{Form}
 use Rattle.hph_fexpr.specs.declared.form.Form.TheVariants.{Level}
 use Rattle.hph_fexpr.specs.declared.elements.Elements.{Elements}
 use Rattle.hph_cursor.specs.Steps.{Parser, sees}
 use Rattle.hph_cursor.specs.Next.{is_next, assignment_of, pre_update_of, post_update_of, is_set, is_set_kind, is_ampersand}
 use Rattle.hph_fexpr.specs.Terms as p
-use Rattle.hph_fexpr.proofs.Tools.{some_inj, both_true, is_mark_true, Gives, none, some, then_ok, choose_ok, if_ok, Sound}
+use Rattle.hph_fexpr.proofs.Tools.{some_inj, both_true, map_ok, is_mark_true, Gives, none, some, then_ok, choose_ok, if_ok, Sound}
 use Rattle.hph_fexpr.proofs.ArraysSound.{Found, ampersand_true, elements_ok}
 use Rattle.hph_fexpr.proofs.PrimariesSound.{array_ok}
 use Rattle.hph_fexpr.proofs.PostfixSound.{goes_on_ok, postfix_ok}
@@ -35,6 +35,25 @@ use Rattle.hph_fexpr.proofs.PostfixSound.{goes_on_ok, postfix_ok}
 pub stopped_ok : {A : Type 0} {P : A → List Token → Type 0} (n : ℕ) (a : A) (ts : List Token) → (Stops n ts → P a ts) →
     Gives P (p.stopped n a ts)
 stopped_ok n a ts h = if_ok (nat_lt (next ts) n) (λ e. some (h (record { below = grind (arith, nat_tests, e) }))) (λ _. none)
+
+-- a term; or, where an element may stand alone, one that is only written, and then it ends
+pub data Used (alone : Bool) : List Token → Expr → List Token → Type 0 where
+  a_term : {ts rest : List Token} {x : Expr} → IsTerm ts x rest → Used alone ts x rest
+  an_element : {ts rest : List Token} {x : Expr} → alone ≡ true → IsWrittenOnly ts x rest → Stops 1 rest → Used alone ts x rest
+
+left_true : (x y : Bool) → (x || y) ≡ true → y ≡ false → x ≡ true
+left_true true y h f = refl
+left_true false y h f = absurd (cc)
+
+unused : (alone : Bool) (ts mid : List Token) (x : Expr) → IsPostfix ts x mid →
+    ((alone && (is_written x && nat_lt (next mid) 1)) || is_read x) ≡ true → Used alone ts x mid
+unused alone ts mid x d h = go (is_read x) refl
+  where
+    go : (b : Bool) → is_read x ≡ b → Used alone ts x mid
+    go true reads = a_term (g.postfix d reads)
+    go false unread = let both = both_true alone (is_written x && nat_lt (next mid) 1) (left_true _ (is_read x) h unread) in
+        let ends = both_true (is_written x) (nat_lt (next mid) 1) both.1 in
+        an_element both.0 (g.appended d unread ends.0) (record { below = grind (arith, nat_tests, ends.1) })
 
 pre_update_ok : (t : Token) (kind : Kind) (form : Update) → t.kind ≡ kind → pre_update_of kind ≡ Some form → IsPreUpdate t form
 pre_update_ok t (k.Mark m.Increment) form is h = subst (IsPreUpdate t) (some_inj h) (terminal.pre_increment is)
@@ -76,16 +95,18 @@ module _ (links : ℕ) (below : Form → Parser Expr) (ok : Sound below) where
       bound_ok ts us t x d written (is ∙ ap k.Assign (set_true op c.0)) c.1)
       (λ _. then_ok (ok (Level (suc assign_level)) us) (λ y rest f. some (g.assign d written is f.is f.stops)))
 
-  unused_ok : (ts mid : List Token) (x : Expr) → IsPostfix ts x mid → Gives (IsTerm ts) (if is_read x then Some (x, mid) else None)
-  unused_ok ts mid x d = if_ok (is_read x) (λ read. some (g.postfix d read)) (λ _. none)
+  unused_ok : (alone : Bool) (ts mid : List Token) (x : Expr) → IsPostfix ts x mid →
+      Gives (Used alone ts) (if (alone && (is_written x && nat_lt (next mid) 1)) || is_read x then Some (x, mid) else None)
+  unused_ok alone ts mid x d =
+      if_ok ((alone && (is_written x && nat_lt (next mid) 1)) || is_read x) (λ h. some (unused alone ts mid x d h)) (λ _. none)
 
-  path_used_ok : (ts mid : List Token) (x : Expr) → IsPostfix ts x mid → Gives (IsTerm ts) (p.path_used links below x mid)
+  path_used_ok : (alone : Bool) (ts mid : List Token) (x : Expr) → IsPostfix ts x mid → Gives (Used alone ts) (p.path_used links below alone x mid)
   unfolding p.path_used p.post_updated
-  path_used_ok ts [] x d = unused_ok ts [] x d
-  path_used_ok ts (t ∷ us) x d = choose_ok (post_update_of t.kind)
-      (λ _. choose_ok (assignment_of t.kind) (λ _. unused_ok ts (t ∷ us) x d)
-      (λ op e. if_ok (is_written x) (λ written. assigned_ok ts us t x op d written (assignment_ok t.kind op e)) (λ _. none)))
-      (λ form e. if_ok (is_written x) (λ written. some (g.updated d written (post_update_ok t t.kind form refl e))) (λ _. none))
+  path_used_ok alone ts [] x d = unused_ok alone ts [] x d
+  path_used_ok alone ts (t ∷ us) x d = choose_ok (post_update_of t.kind)
+      (λ _. choose_ok (assignment_of t.kind) (λ _. unused_ok alone ts (t ∷ us) x d)
+      (λ op e. if_ok (is_written x) (λ written. map_ok (assigned_ok ts us t x op d written (assignment_ok t.kind op e)) (λ y rest f. a_term f)) (λ _. none)))
+      (λ form e. if_ok (is_written x) (λ written. some (a_term (g.updated d written (post_update_ok t t.kind form refl e)))) (λ _. none))
 
   destructured_ok : (o : Token) (ts us : List Token) (r : Elements) → IsMark m.OpenBracket o → Found m.CloseBracket [] false ts r us →
       is_next is_set_kind us ≡ true →
@@ -96,24 +117,41 @@ module _ (links : ℕ) (below : Form → Parser Expr) (ok : Sound below) where
       some (subst (λ xs. IsTerm (o ∷ ts) (e.Destructure (span (on o) (place y)) xs y) rest) (sym f.is_all)
       (g.destructure opens (f.as_targets refl) (set_kind_true t.kind h) d.is d.stops)))
 
-  from_array_ok : (o : Token) (ts us : List Token) (r : Elements) → IsMark m.OpenBracket o → Found m.CloseBracket [] false ts r us →
-      Gives (IsTerm (o ∷ ts)) (p.from_array links below o r us)
+  from_array_ok : (alone : Bool) (o : Token) (ts us : List Token) (r : Elements) → IsMark m.OpenBracket o → Found m.CloseBracket [] false ts r us →
+      Gives (Used alone (o ∷ ts)) (p.from_array links below alone o r us)
   unfolding p.from_array
-  from_array_ok o ts us r opens f = then_ok (then_ok (array_ok m.CloseBracket o Short (o ∷ ts) ts us r f (λ xs c d. g.short_array opens d))
+  from_array_ok alone o ts us r opens f = then_ok (then_ok (array_ok m.CloseBracket o Short (o ∷ ts) ts us r f (λ xs c d. g.short_array opens d))
       (λ x vs d. goes_on_ok below ok links (o ∷ ts) vs x (λ z rest more. g.primary d more)))
-      (λ x vs d. path_used_ok (o ∷ ts) vs x d)
+      (λ x vs d. path_used_ok alone (o ∷ ts) vs x d)
 
-  bracketed_ok : (ts : List Token) → sees m.OpenBracket ts ≡ true → Gives (IsTerm ts) (p.bracketed links below ts)
+  -- elements that stand in a destructuring alone
+  targets_ok : (o : Token) (ts us : List Token) (r : Elements) → IsMark m.OpenBracket o → Found m.CloseBracket [] false ts r us → r.targets ≡ true →
+      IsWrittenOnly (o ∷ ts) (e.Array (span (on o) r.close) Targets r.items) us
+  targets_ok o ts us r opens f are =
+      subst (λ last. IsWrittenOnly (o ∷ ts) (e.Array (span (on o) last) Targets r.items) us) (sym f.is_close)
+      (subst (λ xs. IsWrittenOnly (o ∷ ts) (e.Array (span (on o) (on f.close)) Targets xs) us) (sym f.is_all)
+      (g.nested_targets opens (f.as_targets refl) (sym f.are_targets ∙ are)))
+
+  undestructured_ok : (alone : Bool) (o : Token) (ts us : List Token) (r : Elements) → IsMark m.OpenBracket o → Found m.CloseBracket [] false ts r us →
+      Gives (Used alone (o ∷ ts)) (p.undestructured links below alone o r us)
+  unfolding p.undestructured
+  undestructured_ok alone o ts us r opens f = if_ok (p.stands_alone links below alone r us)
+      (λ h. let both = both_true alone (r.targets && nat_lt (next us) 1) h in
+      let ends = both_true r.targets (nat_lt (next us) 1) both.1 in
+      some (an_element both.0 (targets_ok o ts us r opens f ends.0) (record { below = grind (arith, nat_tests, ends.1) })))
+      (λ _. from_array_ok alone o ts us r opens f)
+
+  bracketed_ok : (alone : Bool) (ts : List Token) → sees m.OpenBracket ts ≡ true → Gives (Used alone ts) (p.bracketed links below alone ts)
   unfolding p.bracketed
-  bracketed_ok [] h = none
-  bracketed_ok (o ∷ ts) h = let opens =
+  bracketed_ok alone [] h = none
+  bracketed_ok alone (o ∷ ts) h = let opens =
       is_mark_true m.OpenBracket o.kind h in then_ok (elements_ok below ok m.CloseBracket ts) (λ r us f. if_ok (is_next is_set_kind us)
-      (λ sets. destructured_ok o ts us r opens f sets)
-      (λ _. from_array_ok o ts us r opens f))
+      (λ sets. map_ok (destructured_ok o ts us r opens f sets) (λ x rest d. a_term d))
+      (λ _. undestructured_ok alone o ts us r opens f))
 
-  operand_ok : (ts : List Token) → Gives (IsTerm ts) (p.operand links below ts)
-  operand_ok ts = if_ok (sees m.OpenBracket ts) (λ h. bracketed_ok ts h)
-      (λ _. then_ok (postfix_ok below ok links ts) (λ x mid d. path_used_ok ts mid x d))
+  operand_ok : (alone : Bool) (ts : List Token) → Gives (Used alone ts) (p.operand links below alone ts)
+  operand_ok alone ts = if_ok (sees m.OpenBracket ts) (λ h. bracketed_ok alone ts h)
+      (λ _. then_ok (postfix_ok below ok links ts) (λ x mid d. path_used_ok alone ts mid x d))
 
   pre_updated_ok : (t : Token) (ts : List Token) (form : Update) → IsPreUpdate t form →
       Gives (IsTerm (t ∷ ts)) (p.pre_updated links below form (t ∷ ts))
@@ -127,10 +165,10 @@ module _ (links : ℕ) (below : Form → Parser Expr) (ok : Sound below) where
   unfolding p.prefixed
   prefixed_ok t ts op is = then_ok (ok (Level (suc (prefix_level op))) ts) (λ x rest d. some (g.prefix is d.is d.stops))
 
-  pub term_ok : (ts : List Token) → Gives (IsTerm ts) (p.term links below ts)
+  pub term_ok : (alone : Bool) (ts : List Token) → Gives (Used alone ts) (p.term links below alone ts)
   unfolding p.term
-  term_ok [] = operand_ok []
-  term_ok (t ∷ ts) = choose_ok (prefix_of t.kind)
-      (λ _. choose_ok (pre_update_of t.kind) (λ _. operand_ok (t ∷ ts))
-      (λ form e. pre_updated_ok t ts form (pre_update_ok t t.kind form refl e)))
-      (λ op e. prefixed_ok t ts op e)
+  term_ok alone [] = operand_ok alone []
+  term_ok alone (t ∷ ts) = choose_ok (prefix_of t.kind)
+      (λ _. choose_ok (pre_update_of t.kind) (λ _. operand_ok alone (t ∷ ts))
+      (λ form e. map_ok (pre_updated_ok t ts form (pre_update_ok t t.kind form refl e)) (λ x rest d. a_term d)))
+      (λ op e. map_ok (prefixed_ok t ts op e) (λ x rest d. a_term d))

@@ -82,12 +82,20 @@ module _ (below : Form → Parser Expr) where
   unfoldable pub target_property : Parser Step
   target_property = take_token >>= λ t. member >>= λ r. pure (s.Property (span (on t) r.1) r.0)
 
+  abbrev pub static_step_by : Token → Token → Kind → Parser Step
+  static_step_by t l (k.Variable name) = pure (s.Property (span (on t) (on l)) (n.Computed (e.Variable (on l) name)))
+  static_step_by t l _ = fail
+
+  -- at "::"
+  unfoldable pub target_static_property : Parser Step
+  target_static_property = take_token >>= λ t. take_token >>= λ l. static_step_by t l l.kind
+
   unfoldable pub target_steps_from : ℕ → List Step → Parser (List Step)
   target_steps_from zero found ts = Some (found, ts)
   target_steps_from (suc n) found ts =
       if sees m.OpenBracket ts then (target_index >>= λ x. target_steps_from n (found ++ x ∷ [])) ts
       else (if sees m.Arrow ts then (target_property >>= λ x. target_steps_from n (found ++ x ∷ [])) ts
-      else (if sees m.DoubleColon ts then None
+      else (if sees m.DoubleColon ts then (target_static_property >>= λ x. target_steps_from n (found ++ x ∷ [])) ts
       else Some (found, ts)))
 
   -- an expression with all steps that follow, as a class

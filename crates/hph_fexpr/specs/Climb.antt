@@ -1,5 +1,5 @@
 -- Binary operators, level by level: PHP manual, Operator Precedence.
-use Rattle.std.specs.Prelude.{ℕ, zero, suc, List, [], ◌∷◌, ◌++◌, length, Some, None, if◌then◌else◌, ◌==◌, nat_le}
+use Rattle.std.specs.Prelude.{ℕ, zero, suc, Bool, false, true, List, [], ◌∷◌, ◌++◌, length, Some, None, if◌then◌else◌, ◌==◌, nat_le}
 use Rattle.hph_ast.specs.declared.token.Mark.TheVariants as m
 use Rattle.hph_ast.specs.declared.operator.Binary.{Binary}
 use Rattle.hph_ast.specs.declared.operator.Grouping.{Grouping}
@@ -80,5 +80,12 @@ module _ (below : Form → Parser Expr) where
       if nat_le least n then (if next ts == n then (longer n x >>= climb least n) ts else climb least n x ts)
       else stopped least x ts
 
+  -- an expression; or, where an element may stand alone, what is only written
+  unfoldable pub climbed : Bool → ℕ → ℕ → Parser Expr
+  climbed alone links least = term links below alone >>= climb least top
+
   unfoldable pub one_level : ℕ → ℕ → Parser Expr
-  one_level links least = term links below >>= climb least top
+  one_level = climbed false
+
+  unfoldable pub one_element : ℕ → Parser Expr
+  one_element links = climbed true links 1

@@ -22,9 +22,9 @@ use Rattle.hph_fexpr.specs.Arrays.{elements}
 use Rattle.hph_fexpr.specs.Strings.{interpolated}
 use Rattle.hph_fexpr.specs.Classes.{parenthesis, scoped, class_reference}
 
--- an array has no holes
+-- an array holds nothing that stands in a destructuring alone
 abbrev pub array_of : Token → ArrayForm → Elements → Parser Expr
-array_of t form r = pure_if (not r.holes) (e.Array (span (on t) r.close) form r.items)
+array_of t form r = pure_if (not r.targets) (e.Array (span (on t) r.close) form r.items)
 
 module _ (below : Form → Parser Expr) where
   -- behind "["

@@ -9,6 +9,7 @@ ghost use Rattle.hph_ast.specs.declared.expr.Item.{Item};
 ghost use Rattle.hph_ast.specs.Levels.{top, Stops};
 ghost use Rattle.hph_ast.specs.Nesting.{nesting, item_nesting, greatest};
 ghost use Rattle.hph_ast.specs.Places.{on};
+ghost use Rattle.hph_ast.specs.Shapes.{has_targets};
 ghost use Rattle.hph_ast.specs.Expressions.{IsExpression, IsPostfix, IsPaths, IsTargets};
 ghost use Rattle.hph_fexpr.specs.declared.form.Form.TheVariants.{Level, Postfix};
 ghost use Rattle.hph_fexpr.specs.declared.elements.Elements.{Elements};
@@ -65,8 +66,8 @@ pub fn paths_are_read()
 
 /// The elements and holes of a destructuring, behind the bracket that opens.
 pub fn targets_are_read()
-    ensures sound { (depth : ℕ) (tokens : List Token) (found : Elements) (rest : List Token) → elements (parse depth) CloseBracket tokens ≡ Some (found, rest) → IsTargets tokens found.items rest }
-    ensures complete { (depth : ℕ) (tokens : List Token) (items : List Item) (rest : List Token) → IsTargets tokens items rest → greatest item_nesting items ≤ depth → (found : Elements) × (elements (parse depth) CloseBracket tokens ≡ Some (found, rest)) × (found.items ≡ items) }
+    ensures sound { (depth : ℕ) (tokens : List Token) (found : Elements) (rest : List Token) → elements (parse depth) CloseBracket tokens ≡ Some (found, rest) → (c : Token) × IsTargets tokens found.items c rest }
+    ensures complete { (depth : ℕ) (tokens : List Token) (items : List Item) (c : Token) (rest : List Token) → IsTargets tokens items c rest → greatest item_nesting items ≤ depth → elements (parse depth) CloseBracket tokens ≡ Some (record { items = items; targets = has_targets items; close = on c }, rest) }
 {
     nesting_laws();
 }

@@ -101,7 +101,7 @@ fn print_primary(
         }
         Expr::Array { form, items, .. } => {
             let (opening, closing) = match form {
-                ArrayForm::Short => ("[", "]"),
+                ArrayForm::Short | ArrayForm::Targets => ("[", "]"),
                 ArrayForm::Long => ("array(", ")"),
             };
             out.push_str(opening)?;

@@ -9,7 +9,7 @@ use Rattle.hph_ast.specs.StatementNesting.{statement_nesting, file_nesting}
 use Rattle.hph_ast.specs.Shapes.{is_written}
 use Rattle.hph_ast.specs.Statements as g
 use Rattle.hph_ast.specs.Statements.{file_place, IsStatement, IsStatements, IsFile}
-use Rattle.hph_fexpr.specs.declared.form.Form.TheVariants.{Level}
+use Rattle.hph_fexpr.specs.declared.form.Form.TheVariants.{Level, Postfix}
 use Rattle.hph_fexpr.specs.Lists.{paths}
 use Rattle.hph_fexpr.specs.Arrays.{elements}
 use Rattle.hph_fexpr.specs.Parser.{parse}
@@ -29,6 +29,7 @@ expressions_ok laws limit = record {
   level = λ ts. gives (parse limit (Level 1) ts) (λ x rest e. (laws.of_expressions.level_sound limit 1 ts x rest e).is);
   paths_ok = λ ts. gives (paths (parse limit) is_written ts)
       (λ r rest e. let p = laws.of_expressions.paths_sound limit is_written ts r.0 r.1 rest e in (p.0, p.2));
+  postfix = λ ts. gives (parse limit Postfix ts) (λ x rest e. laws.of_expressions.postfix_sound limit ts x rest e);
   targets_ok = λ ts. gives (elements (parse limit) m.CloseBracket ts) (λ r rest e. laws.of_expressions.targets_sound limit ts r rest e);
 }
 

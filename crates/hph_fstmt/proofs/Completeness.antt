@@ -31,7 +31,7 @@ use Rattle.hph_fstmt.proofs.Tools.{then_is, if_true, if_false, mark_is, expect_i
 use Rattle.hph_fstmt.proofs.Keywords.{keyword_is, kind_is}
 use Rattle.hph_fstmt.proofs.Firsts.{begins_expression, Begins, begins, begins_static, expression_begins, not_first}
 use Rattle.hph_fstmt.proofs.DeclarationsComplete.{level_is, closed_is, variables_is, statics_is, constants_is}
-use Rattle.hph_fstmt.proofs.StatementsComplete.{CompleteStatement, at_most_one, foreach_key_is, levels_is, keyword_stops, test_is, exprs_is, maybe_exprs_is, foreach_target_is, statements_is, branches_is, otherwise_is, cases_is}
+use Rattle.hph_fstmt.proofs.StatementsComplete.{CompleteStatement, at_most_one, foreach_key_is, paren_ends, levels_is, keyword_stops, test_is, exprs_is, maybe_exprs_is, foreach_target_is, statements_is, branches_is, otherwise_is, cases_is}
 use Rattle.hph_fstmt.proofs.MembersComplete.{function_is, class_is}
 
 statics_begin : {ts rest : List Token} {xs : List StaticVariable} {c : Token} → IsStaticVariables ts xs c rest →
@@ -137,7 +137,7 @@ module _ (laws : Laws) (limit depth : ℕ) (fits : depth ≤ limit) (nested : Pa
       let n = laws.of_nesting.foreach_loop (span (on t) (statement_place body)) x key value body in
       by top t (o ∷ ts) is (then_is _ (expect_is paren) (then_is _ (level_is laws limit d (keyword_stops w.As refl word) (omega arith))
       (then_is _ (kind_is (is_keyword w.As) word (keyword_is w.As refl)) (then_is _ (foreach_key_is f h mark)
-      (then_is _ (foreach_target_is laws limit h (omega arith)) (then_is _ (expect_is mark)
+      (then_is _ (foreach_target_is laws limit h (omega arith) (paren_ends mark)) (then_is _ (expect_is mark)
       (then_is _ (all later rest body i (omega arith)) refl)))))))
   one_statement_is top _ _ _ (g.switch {ts = ts} {t = t} {c = c} {x = x} {cases = cases} is d brace f mark one) small =
       let n = laws.of_nesting.switch_statement (span (on t) (on c)) x cases in

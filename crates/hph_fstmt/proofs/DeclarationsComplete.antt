@@ -38,7 +38,7 @@ use Rattle.hph_fstmt.specs.Declarations as p
 use Rattle.hph_fstmt.proofs.Tools.{then_is, choose_some, choose_none, if_true, if_false, mark_is, expect_is}
 use Rattle.hph_fstmt.proofs.Keywords.{keyword_is, kind_is, name_is, variable_is}
 use Rattle.hph_fstmt.proofs.Repeats.{Separated, last, more, Ending, ending, separated_is}
-use Rattle.hph_fstmt.proofs.ExpressionShorter.{expression_shorter}
+use Rattle.hph_cursor.proofs.Shorter.{expression_shorter}
 use Rattle.hph_fstmt.proofs.Shorter.{initial_shorter, param_shorter, params_shorter, type_names_shorter}
 use Rattle.hph_fstmt.proofs.DeclarationsSound.{AVariable, a_variable, AStatic, a_static_variable, AProperty, a_property, AConstant, a_constant}
 

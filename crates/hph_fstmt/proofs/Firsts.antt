@@ -91,7 +91,7 @@ primary_begins (g.exit is shut) = exit_begins is
 primary_begins (g.exit_of_nothing is o c) = exit_begins is
 primary_begins (g.exit_with is o d c) = exit_begins is
 
-postfix_begins : {ts rest : List Token} {x : Expr} → IsPostfix ts x rest → Begins ts
+pub postfix_begins : {ts rest : List Token} {x : Expr} → IsPostfix ts x rest → Begins ts
 postfix_begins (g.primary d more) = primary_begins d
 
 prefix_begins : (kind : Kind) (op : Prefix) → prefix_of kind ≡ Some op → begins_expression kind ≡ true

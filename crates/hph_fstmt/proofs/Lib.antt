@@ -4,7 +4,6 @@ pub mod Repeats
 pub mod DeclarationsSound
 pub mod StatementsSound
 pub mod MembersSound
-pub mod ExpressionShorter
 pub mod Shorter
 pub mod Firsts
 pub mod DeclarationsComplete

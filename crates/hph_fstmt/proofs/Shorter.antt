@@ -24,7 +24,7 @@ use Rattle.hph_ast.specs.Declarations as d
 use Rattle.hph_ast.specs.Declarations.{IsConstant, IsVariables, IsInitial, IsStaticVariables, IsPropertyItems, IsConstantItems, IsTypeNames, IsType, IsMaybeType, IsMaybeReference, IsParam, IsParams, IsResult, IsModifiers}
 use Rattle.hph_ast.specs.Statements as g
 use Rattle.hph_ast.specs.Statements.{IsTest, IsExprs, IsMaybeExprs, IsForeachKey, IsForeachTarget, IsLevels, IsLabel, IsStatement, IsStatements, IsElseIfs, IsElse, IsCases, IsFunction, IsClassDeclaration, IsExtends, IsMembers, IsMember}
-use Rattle.hph_fstmt.proofs.ExpressionShorter.{expression_shorter, targets_shorter, paths_shorter}
+use Rattle.hph_cursor.proofs.Shorter.{postfix_shorter, expression_shorter, targets_shorter, paths_shorter}
 
 -- ---- declarations
 
@@ -103,7 +103,7 @@ key_shorter (g.a_key is q) = omega arith
 
 pub target_shorter : {ts rest : List Token} {x : ForeachTarget} → IsForeachTarget ts x rest → length rest < length ts
 target_shorter (g.to_variable is) = omega arith
-target_shorter (g.to_reference is q) = omega arith
+target_shorter (g.to_reference is d source) = omega (arith, postfix_shorter d)
 target_shorter (g.to_items o d) = omega (arith, targets_shorter d)
 
 pub levels_shorter : {ts rest : List Token} {x : Option ℕ} {c : Token} → IsLevels ts x c rest → length rest < length ts

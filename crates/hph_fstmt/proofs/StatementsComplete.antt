@@ -24,11 +24,14 @@ use Rattle.hph_ast.specs.Nesting.{nesting, greatest}
 use Rattle.hph_ast.specs.StatementNesting.{maybe, target_nesting, statement_nesting, case_nesting, else_if_nesting}
 use Rattle.hph_ast.specs.Places.{place, on, span}
 use Rattle.hph_ast.specs.Terminals.{IsMark, IsKeyword}
+use Rattle.hph_ast.specs.Shapes.{is_source}
 use Rattle.hph_ast.specs.Expressions as i
-use Rattle.hph_ast.specs.Expressions.{IsExpression, IsPaths, IsTargets, IsItem}
+use Rattle.hph_ast.specs.Expressions.{IsExpression, IsPostfix, IsPaths, IsTargets, IsElement, IsWrittenOnly, IsItem}
 use Rattle.hph_ast.specs.Statements as g
 use Rattle.hph_ast.specs.Statements.{keyword_next, last_statement, last_part, statement_place, is_default, IsTest, IsExprs, IsMaybeExprs, IsForeachKey, IsForeachTarget, IsLevels, IsLabel, IsLabelEnd, IsStatement, IsStatements, IsElseIfs, IsElse, IsCases, IsExtends}
 use Rattle.hph_fexpr.specs.declared.form.Form.TheVariants.{Level}
+use Rattle.hph_fexpr.specs.Endings.{Ends}
+use Rattle.hph_fexpr.specs.Arrays.{source}
 use Rattle.hph_fexpr.specs.Parser.{parse}
 use Rattle.hph_cursor.specs.Steps.{Parser, is_mark, sees}
 use Rattle.hph_fstmt.specs.Laws.{Laws}
@@ -38,13 +41,22 @@ use Rattle.hph_fstmt.specs.Statements as p
 use Rattle.hph_fstmt.proofs.Tools.{then_is, if_true, if_false, mark_is, expect_is}
 use Rattle.hph_fstmt.proofs.Keywords.{keyword_is, not_keyword, kind_is, name_is, variable_is}
 use Rattle.hph_fstmt.proofs.Repeats.{Separated, last, more, ending, separated_is, Many, many_end, many_more, many_is}
-use Rattle.hph_fstmt.proofs.ExpressionShorter.{expression_shorter}
+use Rattle.hph_cursor.proofs.Shorter.{expression_shorter}
 use Rattle.hph_fstmt.proofs.Shorter.{statement_shorter, test_shorter, label_shorter, statements_shorter}
-use Rattle.hph_fstmt.proofs.Firsts.{begins_expression, Begins, begins, begins_static, expression_begins, not_first}
+use Rattle.hph_fstmt.proofs.Firsts.{begins_expression, Begins, begins, begins_static, expression_begins, postfix_begins, not_first}
 use Rattle.hph_fstmt.proofs.StatementsSound.{ABranch, a_branch, ACase, a_case}
 use Rattle.hph_fstmt.proofs.DeclarationsComplete.{level_is, closed_is, ending_stops}
 
 -- ---- without expressions
+
+-- no postfix expression goes on behind a parenthesis that closes
+pub paren_ends : {c : Token} {rest : List Token} → IsMark m.CloseParen c → Ends (c ∷ rest)
+paren_ends mark = record {
+  call = ap (is_mark m.OpenParen) mark;
+  bracket = ap (is_mark m.OpenBracket) mark;
+  arrow = ap (is_mark m.Arrow) mark;
+  colons = ap (is_mark m.DoubleColon) mark;
+}
 
 -- no target begins with "=>"
 item_no_arrow : {ts rest : List Token} {x : Item} → IsItem ts x rest → sees m.DoubleArrow ts ≡ false
@@ -53,10 +65,19 @@ item_no_arrow (i.pair d arrow f) = not_first m.DoubleArrow refl (expression_begi
 item_no_arrow (i.reference is d source) = ap (is_mark m.DoubleArrow) is
 item_no_arrow (i.pair_reference d arrow is f source) = not_first m.DoubleArrow refl (expression_begins d)
 
-targets_no_arrow : {ts rest : List Token} {xs : List Item} → IsTargets ts xs rest → sees m.DoubleArrow ts ≡ false
+written_no_arrow : {ts rest : List Token} {x : Expr} → IsWrittenOnly ts x rest → sees m.DoubleArrow ts ≡ false
+written_no_arrow (i.appended d unread is) = not_first m.DoubleArrow refl (postfix_begins d)
+written_no_arrow (i.nested_targets opens d has) = ap (is_mark m.DoubleArrow) opens
+
+element_no_arrow : {ts rest : List Token} {x : Item} → IsElement ts x rest → sees m.DoubleArrow ts ≡ false
+element_no_arrow (i.element_item d) = item_no_arrow d
+element_no_arrow (i.element d) = written_no_arrow d
+element_no_arrow (i.element_pair d arrow f) = not_first m.DoubleArrow refl (expression_begins d)
+
+targets_no_arrow : {ts rest : List Token} {xs : List Item} {c : Token} → IsTargets ts xs c rest → sees m.DoubleArrow ts ≡ false
 targets_no_arrow (i.targets_end mark) = ap (is_mark m.DoubleArrow) mark
-targets_no_arrow (i.targets_last d mark) = item_no_arrow d
-targets_no_arrow (i.targets_more d mark f) = item_no_arrow d
+targets_no_arrow (i.targets_last d mark) = element_no_arrow d
+targets_no_arrow (i.targets_more d mark f) = element_no_arrow d
 targets_no_arrow (i.targets_hole mark d) = ap (is_mark m.DoubleArrow) mark
 
 -- no target is read as a key
@@ -64,7 +85,8 @@ no_key_before : {ts rest : List Token} {value : ForeachTarget} {c : Token} → I
     p.foreach_key ts ≡ Some (None, ts)
 unfolding p.foreach_key
 no_key_before (g.to_variable is) mark = if_false _ _ (ap (is_mark m.DoubleArrow) mark) refl
-no_key_before (g.to_reference amp is) mark = if_false _ _ (ap (is_mark m.DoubleArrow) is) refl
+no_key_before (g.to_reference {ts = []} amp d source) mark = refl
+no_key_before (g.to_reference {ts = q ∷ ts} amp d source) mark = if_false _ _ (not_first m.DoubleArrow refl (postfix_begins d)) refl
 no_key_before (g.to_items {ts = []} o d) mark = refl
 no_key_before (g.to_items {ts = q ∷ ts} o d) mark = if_false _ _ (targets_no_arrow d) refl
 
@@ -132,21 +154,26 @@ module _ (laws : Laws) (limit : ℕ) where
   maybe_exprs_is closing loose other none (g.some_exprs d) small =
       if_false _ _ (not_first closing none (exprs_begin d)) (then_is _ (exprs_is closing loose other d small) refl)
 
-  destructured_is : (o : Token) {ts rest : List Token} {items : _} → IsTargets ts items rest →
+  destructured_is : (o : Token) {ts rest : List Token} {items : _} {c : Token} → IsTargets ts items c rest →
       target_nesting (target.Destructure o.start items) ≤ limit →
       p.destructured (parse limit) o ts ≡ Some (target.Destructure o.start items, rest)
   unfolding p.destructured
-  destructured_is o {ts = ts} {rest = rest} {items = items} d small =
-      let r = laws.of_expressions.targets_complete limit ts items rest d small in
-      then_is _ r.1 (ap (λ found. Some (target.Destructure o.start found, rest)) r.2)
+  destructured_is o {ts = ts} {rest = rest} {items = items} {c = c} d small =
+      then_is _ (laws.of_expressions.targets_complete limit ts items c rest d small) refl
 
-  pub foreach_target_is : {ts rest : List Token} {value : ForeachTarget} → IsForeachTarget ts value rest → target_nesting value ≤ limit →
+  source_is : {ts rest : List Token} {x : Expr} → IsPostfix ts x rest → is_source x ≡ true → nesting x ≤ limit → Ends rest →
+      source (parse limit) ts ≡ Some (x, rest)
+  unfolding source
+  source_is {ts = ts} {rest = rest} {x = x} d is small ends =
+      then_is _ (laws.of_expressions.postfix_complete limit ts x rest d small ends) (if_true _ _ is refl)
+
+  pub foreach_target_is : {ts rest : List Token} {value : ForeachTarget} → IsForeachTarget ts value rest → target_nesting value ≤ limit → Ends rest →
       p.foreach_target (parse limit) ts ≡ Some (value, rest)
   unfolding p.foreach_target p.referenced
-  foreach_target_is (g.to_variable {rest = rest} {t = t} is) small = ap (λ kind. p.target_by (parse limit) t kind rest) is
-  foreach_target_is (g.to_reference {rest = rest} {t = t} {q = q} amp is) small =
-      ap (λ kind. p.target_by (parse limit) t kind (q ∷ rest)) amp ∙ then_is _ (variable_is is) refl
-  foreach_target_is (g.to_items {ts = ts} {o = o} opens d) small =
+  foreach_target_is (g.to_variable {rest = rest} {t = t} is) small ends = ap (λ kind. p.target_by (parse limit) t kind rest) is
+  foreach_target_is (g.to_reference {ts = ts} {t = t} amp d is) small ends =
+      ap (λ kind. p.target_by (parse limit) t kind ts) amp ∙ then_is _ (source_is d is small ends) refl
+  foreach_target_is (g.to_items {ts = ts} {o = o} opens d) small ends =
       ap (λ kind. p.target_by (parse limit) o kind ts) opens ∙ destructured_is o d small
 
   pub label_is : {ts rest : List Token} {found : Option Expr} {c : Token} → IsLabel ts found c rest → maybe nesting found ≤ limit →

@@ -13,16 +13,16 @@ use Rattle.hph_ast.specs.declared.stmt.Statement.{Statement}
 use Rattle.hph_ast.specs.declared.stmt.ElseIf.{ElseIf, roll-ElseIf}
 use Rattle.hph_ast.specs.declared.stmt.Case.{Case, roll-Case}
 use Rattle.hph_ast.specs.Places.{on, span}
-use Rattle.hph_ast.specs.Shapes.{is_written}
+use Rattle.hph_ast.specs.Shapes.{is_written, is_source}
 use Rattle.hph_ast.specs.Terminals.{IsMark, IsKeyword}
-use Rattle.hph_ast.specs.Expressions.{IsExpression, IsPaths, IsTargets}
+use Rattle.hph_ast.specs.Expressions.{IsExpression, IsPostfix, IsPaths, IsTargets}
 use Rattle.hph_ast.specs.Statements as g
 use Rattle.hph_ast.specs.Statements.{keyword_next, last_statement, is_default, IsTest, IsExprs, IsMaybeExprs, IsForeachKey, IsForeachTarget, IsLevels, IsLabel, IsLabelEnd, IsStatement, IsStatements, IsElseIfs, IsElse, IsCases, IsExtends}
 use Rattle.hph_fexpr.specs.declared.form.Form.{Form}
-use Rattle.hph_fexpr.specs.declared.form.Form.TheVariants.{Level}
+use Rattle.hph_fexpr.specs.declared.form.Form.TheVariants.{Level, Postfix}
 use Rattle.hph_cursor.specs.Steps.{Parser, ◌>>=◌, and_then, is_mark, expect, pure}
 use Rattle.hph_fexpr.specs.Lists.{paths}
-use Rattle.hph_fexpr.specs.Arrays.{elements}
+use Rattle.hph_fexpr.specs.Arrays.{source, elements}
 use Rattle.hph_fstmt.specs.Words.{is_keyword, sees_keyword, expect_kind}
 use Rattle.hph_fstmt.specs.Repeats.{at_end, many}
 use Rattle.hph_fstmt.specs.Statements as p
@@ -63,10 +63,16 @@ extends_ok ts = keyword_at IsExtends w.Extends ts (λ t us is. name_at (λ us. I
     (λ _. some g.no_parent)
 
 -- what is known of the parser of expressions
+-- a path behind `&`
+record Source (ts : List Token) (x : Expr) (rest : List Token) : Type 0 where
+  is : IsPostfix ts x rest
+  source : is_source x ≡ true
+
 pub record SoundExpr (below : Form → Parser Expr) : Type 0 where
   pub level : SoundLevel below
   pub paths_ok : (ts : List Token) → Gives (λ r rest. (c : Token) × IsPaths is_written ts r.0 c rest) (paths below is_written ts)
-  pub targets_ok : (ts : List Token) → Gives (λ r. IsTargets ts r.items) (elements below m.CloseBracket ts)
+  pub targets_ok : (ts : List Token) → Gives (λ r rest. (c : Token) × IsTargets ts r.items c rest) (elements below m.CloseBracket ts)
+  pub postfix : (ts : List Token) → Gives (IsPostfix ts) (below Postfix ts)
 
 as_exprs : {closing : Mark} {ts rest : List Token} {xs : List Expr} {c : Token} → Separated (IsExpression 1) closing ts xs c rest →
     IsExprs closing ts xs c rest
@@ -105,6 +111,10 @@ module _ (below : Form → Parser Expr) (ok : SoundExpr below) where
   maybe_exprs_ok closing ts = sees_at (IsMaybeExprs closing) closing ts (λ c us mark. some (g.no_exprs mark))
       (λ _. then_ok (exprs_ok closing ts) (λ r rest d. some (as_maybe d)))
 
+  source_ok : (ts : List Token) → Gives (Source ts) (source below ts)
+  unfolding source
+  source_ok ts = then_ok (ok.postfix ts) (λ x rest d. if_ok (is_source x) (λ h. some (record { is = d; source = h })) (λ _. none))
+
   pub foreach_target_ok : (ts : List Token) → Gives (IsForeachTarget ts) (p.foreach_target below ts)
   unfolding p.foreach_target p.referenced p.destructured
   foreach_target_ok [] = none
@@ -112,8 +122,8 @@ module _ (below : Form → Parser Expr) (ok : SoundExpr below) where
     where
       go : (kind : Kind) → t.kind ≡ kind → Gives (IsForeachTarget (t ∷ us)) (p.target_by below t kind us)
       go (k.Variable spelled) is = some (g.to_variable is)
-      go (k.Operator b.BitAnd) is = variable_at (λ us. IsForeachTarget (t ∷ us)) us _ (λ q rest spelled e. some (g.to_reference is e))
-      go (k.Mark m.OpenBracket) is = then_ok (ok.targets_ok us) (λ r rest d. some (g.to_items is d))
+      go (k.Operator b.BitAnd) is = then_ok (source_ok us) (λ x rest d. some (g.to_reference is d.is d.source))
+      go (k.Mark m.OpenBracket) is = then_ok (ok.targets_ok us) (λ r rest d. some (g.to_items is d.1))
       go _ is = none
 
   cased_ok : (ts : List Token) → Gives (Cased ts) (p.label_by below (k.Keyword w.Case) ts)

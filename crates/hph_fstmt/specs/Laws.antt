@@ -22,11 +22,12 @@ use Rattle.hph_ast.specs.declared.stmt.StaticVariable.{StaticVariable}
 use Rattle.hph_ast.specs.Levels.{top}
 use Rattle.hph_ast.specs.Nesting.{greatest, nesting, item_nesting}
 use Rattle.hph_ast.specs.Places.{on}
-use Rattle.hph_ast.specs.Expressions.{IsPaths, IsTargets}
+use Rattle.hph_ast.specs.Shapes.{has_targets}
+use Rattle.hph_ast.specs.Expressions.{IsPostfix, IsPaths, IsTargets}
 use Rattle.hph_ast.specs.StatementNesting.{maybe, type_nesting, param_nesting, target_nesting, member_nesting, statement_nesting, class_nesting, function_nesting, case_nesting, else_if_nesting}
-use Rattle.hph_fexpr.specs.declared.form.Form.TheVariants.{Level}
+use Rattle.hph_fexpr.specs.declared.form.Form.TheVariants.{Level, Postfix}
 use Rattle.hph_fexpr.specs.declared.elements.Elements.{Elements}
-use Rattle.hph_fexpr.specs.Endings.{Whole}
+use Rattle.hph_fexpr.specs.Endings.{Whole, Ends}
 use Rattle.hph_fexpr.specs.Lists.{paths}
 use Rattle.hph_fexpr.specs.Arrays.{elements}
 use Rattle.hph_fexpr.specs.Parser.{parse}
@@ -37,15 +38,19 @@ pub record ExpressionLaws : Type 0 where
       parse depth (Level level) tokens ≡ Some (x, rest) → Whole level tokens x rest
   pub level_complete : (depth level : ℕ) (tokens : List Token) (x : Expr) (rest : List Token) → level ≤ top → Whole level tokens x rest →
       nesting x ≤ depth → parse depth (Level level) tokens ≡ Some (x, rest)
+  pub postfix_sound : (depth : ℕ) (tokens : List Token) (x : Expr) (rest : List Token) → parse depth Postfix tokens ≡ Some (x, rest) →
+      IsPostfix tokens x rest
+  pub postfix_complete : (depth : ℕ) (tokens : List Token) (x : Expr) (rest : List Token) → IsPostfix tokens x rest → nesting x ≤ depth →
+      Ends rest → parse depth Postfix tokens ≡ Some (x, rest)
   pub paths_sound : (depth : ℕ) (test : Expr → Bool) (tokens : List Token) (xs : List Expr) (last : At) (rest : List Token) →
       paths (parse depth) test tokens ≡ Some ((xs, last), rest) → (c : Token) × (last ≡ on c) × IsPaths test tokens xs c rest
   pub paths_complete : (depth : ℕ) (test : Expr → Bool) (tokens : List Token) (xs : List Expr) (c : Token) (rest : List Token) →
       IsPaths test tokens xs c rest → greatest nesting xs ≤ depth → paths (parse depth) test tokens ≡ Some ((xs, on c), rest)
   pub targets_sound : (depth : ℕ) (tokens : List Token) (found : Elements) (rest : List Token) →
-      elements (parse depth) CloseBracket tokens ≡ Some (found, rest) → IsTargets tokens found.items rest
-  pub targets_complete : (depth : ℕ) (tokens : List Token) (items : List Item) (rest : List Token) → IsTargets tokens items rest →
+      elements (parse depth) CloseBracket tokens ≡ Some (found, rest) → (c : Token) × IsTargets tokens found.items c rest
+  pub targets_complete : (depth : ℕ) (tokens : List Token) (items : List Item) (c : Token) (rest : List Token) → IsTargets tokens items c rest →
       greatest item_nesting items ≤ depth →
-      (found : Elements) × (elements (parse depth) CloseBracket tokens ≡ Some (found, rest)) × (found.items ≡ items)
+      elements (parse depth) CloseBracket tokens ≡ Some (record { items = items; targets = has_targets items; close = on c }, rest)
 
 -- how deep a statement is nested
 pub record NestingLaws : Type 0 where

@@ -34,7 +34,7 @@ use Rattle.hph_fexpr.specs.declared.form.Form.TheVariants.{Level}
 use Rattle.hph_cursor.specs.Steps.{Parser, ◌>>=◌, ◌>>◌, pure, pure_if, fail, is_mark, sees, expect, take_token}
 use Rattle.hph_cursor.specs.Next.{is_next, is_variable}
 use Rattle.hph_fexpr.specs.Lists.{paths}
-use Rattle.hph_fexpr.specs.Arrays.{elements}
+use Rattle.hph_fexpr.specs.Arrays.{source, elements}
 use Rattle.hph_fstmt.specs.Words.{is_keyword, sees_keyword, expect_kind, here, variable, name}
 use Rattle.hph_fstmt.specs.Repeats.{separated, many}
 use Rattle.hph_fstmt.specs.Declarations.{variables, result_type, modifiers, maybe_type, static_variable, property_item, constant_item, params}
@@ -115,9 +115,9 @@ module _ (below : Form → Parser Expr) where
 
   -- behind "&"
   unfoldable pub referenced : Token → Parser ForeachTarget
-  referenced t = variable >>= λ v. pure (target.Reference v t.start)
+  referenced t = source below >>= λ x. pure (target.Reference x t.start)
 
-  -- VAR; refused: "&" VAR | "[" items and holes "]"
+  -- VAR; refused: "&" path | "[" elements and holes "]"
   abbrev pub target_by : Token → Kind → Parser ForeachTarget
   target_by t (k.Variable spelled) = pure (target.Variable (identifier t spelled))
   target_by t (k.Operator b.BitAnd) = referenced t

@@ -8,3 +8,4 @@ mod DecimalLaws
 mod Steps
 mod ReadSoFar
 mod EveryFile
+pub mod Whitespace

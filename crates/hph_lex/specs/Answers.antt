@@ -5,7 +5,7 @@ use Rattle.hph_ast.specs.declared.token.Token.{Token}
 use Rattle.hph_ast.specs.declared.token.Kind.{Kind}
 use Rattle.hph_ast.specs.declared.token.Kind.TheVariants as k
 use Rattle.hph_ast.specs.declared.lexical.Mode.{Mode}
-use Rattle.hph_ast.specs.declared.lexical.Mode.TheVariants.{Member, Piece}
+use Rattle.hph_ast.specs.declared.lexical.Mode.TheVariants.{Code, Member, Piece}
 use Rattle.hph_ast.specs.Lexical as place
 use Rattle.hph_ast.specs.Lexical.{goes, enters, leaves, token, no_token, refused, key_tokens, property_tokens, is_plain_number, InCode}
 use Rattle.hph_ast.specs.Lexical.{Comes}
@@ -27,6 +27,12 @@ use Rattle.hph_lex.specs.declared.found.Answer.TheVariants as answers
 abbrev pub is_member : Mode → Bool
 is_member Member = true
 is_member _ = false
+
+-- in code, behind `->` and `::` too
+abbrev pub is_code : Mode → Bool
+is_code Code = true
+is_code Member = true
+is_code _ = false
 
 abbrev pub turn_told : Turn → place.Turn
 turn_told (Goes mode) = goes mode

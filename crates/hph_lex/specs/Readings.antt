@@ -7,6 +7,9 @@ use Rattle.hph_ast.specs.Tokens.{State, Reading, turned, FailsAt}
 use Rattle.hph_lex.specs.Answers.{found_tokens, turn_told}
 use Rattle.hph_lex.specs.declared.fault.LexFault.{LexFault}
 use Rattle.hph_lex.specs.declared.fault.LexFault.TheVariants.{Bad, Refused, NoMemory}
+use Rattle.hph_ast.specs.declared.lexical.Mode.{Mode}
+use Rattle.hph_lex.specs.declared.found.Found.TheVariants.{Skipped}
+use Rattle.hph_lex.specs.declared.found.Turn.TheVariants.{Goes}
 use Rattle.hph_lex.specs.declared.found.Next.{Next}
 use Rattle.hph_lex.specs.declared.reader.Reader.{Reader}
 
@@ -25,6 +28,10 @@ IsFaultOf NoMemory reading = Unit {0}
 -- what the bytes before a reader are read as
 abbrev pub state_of : Reader → State
 state_of reader = record { mode = reader.mode; outer = reader.outer }
+
+-- a byte of whitespace in code
+abbrev pub white : Mode → Next
+white mode = record { found = Skipped; length = 1; turn = Goes mode }
 
 -- a reader goes over what comes at its place
 pub record Takes (old : Reader) (next : Next) (new : Reader) : Type 0 where

@@ -3,7 +3,7 @@ ghost use Rattle.std.specs.Prelude.{◌≡◌, ◌<◌, ◌^◌, length, IfOk, I
 ghost use Rattle.hph_ast.specs.Tokens.{Reading, Lexes, beginning, SpellsTokens};
 ghost use Rattle.hph_lex.specs.Readings.{IsFault, IsReading};
 
-use crate::bytes::after;
+use crate::bytes::{ByteClass, after};
 use crate::fault::LexFault;
 use crate::found::Answer;
 use crate::laws::one_reading;
@@ -35,10 +35,15 @@ fn read(alloc: Global, bytes: &[u8]) -> Result<Vec<Token>, LexFault>
     pieces_end();
     let mut reader = Reader::new(alloc);
     while reader.at < bytes.len() {
-        match place(alloc, reader.mode, after(bytes, reader.at))? {
-            Answer::Next(next) => reader.take(next)?,
-            Answer::Bad(kind) => return Err(LexFault::Bad(kind, reader.at as u32)),
-            Answer::Refused(which) => return Err(LexFault::Refused(which, reader.at as u32)),
+        let rest = after(bytes, reader.at);
+        if reader.is_in_code() && ByteClass::Whitespace.begins(rest) {
+            reader.skip_byte();
+        } else {
+            match place(alloc, reader.mode, rest)? {
+                Answer::Next(next) => reader.take(next)?,
+                Answer::Bad(kind) => return Err(LexFault::Bad(kind, reader.at as u32)),
+                Answer::Refused(which) => return Err(LexFault::Refused(which, reader.at as u32)),
+            }
         }
     }
     reader.end()

@@ -2,7 +2,7 @@
 ghost use Rattle.std.specs.Prelude.{◌≡◌, ◌+◌, ◌^◌, ◌<◌, ◌++◌, [], ◌∷◌, length, Ok, Err, if◌then◌else◌, IfOk, OnOk};
 ghost use Rattle.hph_ast.specs.Lexical.{token};
 ghost use Rattle.hph_ast.specs.Tokens.{in_string, string_is_open, turned};
-ghost use Rattle.hph_lex.specs.Answers.{EndBefore, behind_tokens, found_tokens, turn_told};
+ghost use Rattle.hph_lex.specs.Answers.{EndBefore, behind_tokens, found_tokens, is_code, turn_told};
 
 use crate::fault::LexFault;
 use crate::found::{Behind, Found, Key, Next, Turn};
@@ -22,7 +22,7 @@ pub struct Reader {
 }
 
 impl Reader {
-    ghost use Rattle.hph_lex.specs.Readings.{Takes};
+    ghost use Rattle.hph_lex.specs.Readings.{Takes, white};
 
     /// At the beginning of a file.
     pub fn new(alloc: Global) -> Reader
@@ -37,6 +37,21 @@ impl Reader {
             mode: Mode::Inline,
             outer: LinkedList::new(alloc),
         }
+    }
+
+    /// Whether code comes at its place.
+    pub fn is_in_code(&self) -> bool
+        ensures { result ≡ is_code self.now.mode }
+    {
+        matches!(self.mode, Mode::Code | Mode::Member)
+    }
+
+    /// Goes over a byte of whitespace in code.
+    pub fn skip_byte(&mut self)
+        requires { self.old.at + 1 < 2 ^ 32 }
+        ensures { Takes self.old (white self.old.mode) self.new }
+    {
+        self.at += 1;
     }
 
     /// Goes over what comes at its place. Where memory runs out, it may have gone a part of the way.

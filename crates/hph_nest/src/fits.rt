@@ -296,7 +296,8 @@ fn target_fits(target: &ForeachTarget, limit: usize) -> bool
     ensures { result ≡ nat_le (target_nesting target.now) limit }
 {
     match target {
-        ForeachTarget::Variable { .. } | ForeachTarget::Reference { .. } => true,
+        ForeachTarget::Variable { .. } => true,
+        ForeachTarget::Reference { source, .. } => expr_fits(source.get(), limit),
         ForeachTarget::Destructure { items, .. } => items_fit(items.as_slice(), limit),
     }
 }

@@ -8,6 +8,7 @@ ghost use Rattle.hph_fstmt.specs.Statements as statements;
 ghost use Rattle.hph_parse.specs.Public.{Answers, IsAnswer};
 
 use crate::brackets::first_deep;
+use crate::deep::first_too_deep;
 use crate::error::TreeFault;
 use hph_ast::{FileTree, Statement, Token};
 use hph_cursor::{Cursor, ParseFault};
@@ -104,7 +105,7 @@ pub fn parse_with<E: Expressions + Copy>(
     }
     match tree(alloc, expressions, tokens) {
         Ok(found) if file_fits(&found, NESTING_LIMIT) => Ok(found),
-        Ok(_) => Err(TreeFault::Syntax(tokens.len())),
+        Ok(deep) => Err(TreeFault::Syntax(first_too_deep(&deep, tokens, NESTING_LIMIT))),
         Err(ParseFault::Syntax(index)) => Err(TreeFault::Syntax(index)),
         Err(ParseFault::NoMemory) => Err(TreeFault::NoMemory),
     }

@@ -4,6 +4,7 @@
 #![tactic(auto)]
 
 mod brackets;
+mod deep;
 mod error;
 mod file;
 mod parser;

@@ -3,7 +3,7 @@
 ghost use Rattle.hph_ast.specs.declared.token.Mark.TheVariants.{CloseBracket};
 ghost use Rattle.hph_ast.specs.Shapes.{is_written};
 ghost use Rattle.hph_cursor.specs.Reads.{Reads};
-ghost use Rattle.hph_fexpr.specs.Arrays.{elements};
+ghost use Rattle.hph_fexpr.specs.Arrays.{elements, source};
 ghost use Rattle.hph_fexpr.specs.Lists.{paths};
 ghost use Rattle.hph_fexpr.specs.declared.form.Form.TheVariants.{Level};
 ghost use Rattle.hph_fstmt.specs.Parser as spec;
@@ -15,7 +15,7 @@ use hph_ast::{At, Expr, FileTree, Mark, Token};
 use hph_cursor::{Cursor, ParseFault};
 use hph_fexpr::{Elements, Form};
 use hph_parts::Expressions;
-use hph_pexpr::{nested, nested_elements, nested_paths};
+use hph_pexpr::{nested, nested_elements, nested_paths, nested_source};
 use hph_postfix::PathTest;
 use sqlite_items::{Boxed, Items};
 use std::alloc::Global;
@@ -41,6 +41,13 @@ impl Expressions for FileExpressions {
         ensures { Reads (paths spec.expressions is_written cursor.old) result cursor.new }
     {
         nested_paths(alloc, cursor, DEEPEST, PathTest::WrittenPath)
+    }
+
+    #[tactic(auto, unfolding(hph_fstmt::specs::Parser::expressions))]
+    fn source(&self, alloc: Global, cursor: &mut Cursor<'_>) -> Result<Boxed<Expr>, ParseFault>
+        ensures { Reads (source spec.expressions cursor.old) result cursor.new }
+    {
+        nested_source(alloc, cursor, DEEPEST)
     }
 
     #[tactic(auto, unfolding(hph_fstmt::specs::Parser::expressions))]

@@ -3,7 +3,7 @@
 ghost use Rattle.hph_ast.specs.Shapes.{is_written};
 ghost use Rattle.hph_ast.specs.declared.token.Mark.TheVariants.{CloseBracket};
 ghost use Rattle.hph_cursor.specs.Reads.{Reads};
-ghost use Rattle.hph_fexpr.specs.Arrays.{elements};
+ghost use Rattle.hph_fexpr.specs.Arrays.{elements, source};
 ghost use Rattle.hph_fexpr.specs.Lists.{paths};
 ghost use Rattle.hph_fexpr.specs.declared.form.Form.TheVariants.{Level};
 ghost use Rattle.hph_fstmt.specs.Parser as spec;
@@ -28,7 +28,11 @@ pub trait Expressions {
     ) -> Result<(Items<Expr>, At), ParseFault>
         ensures { Reads (paths spec.expressions is_written cursor.old) result cursor.new };
 
-    /// Items and holes behind `[`, up to the `]`.
+    /// A path behind `&`.
+    fn source(&self, alloc: Global, cursor: &mut Cursor<'_>) -> Result<Boxed<Expr>, ParseFault>
+        ensures { Reads (source spec.expressions cursor.old) result cursor.new };
+
+    /// Elements and holes behind `[`, up to the `]`.
     fn targets(&self, alloc: Global, cursor: &mut Cursor<'_>) -> Result<Elements, ParseFault>
         ensures { Reads (elements spec.expressions CloseBracket cursor.old) result cursor.new };
 }

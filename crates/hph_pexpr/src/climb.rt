@@ -140,17 +140,33 @@ impl<F: Fn(Global, &mut Cursor<'_>, usize, Form) -> Result<Boxed<Expr>, ParseFau
         ensures { Reads (spec.climb (parse self.now.below.parts.depth) least levels.top found cursor.old) result cursor.new }
     {
         let mut level = TOP;
+        let mut binds = cursor.binds();
         while level > least {
             level -= 1;
-            if cursor.binds() == level {
+            if binds == level {
                 found = self.longer(cursor, level, found)?;
+                binds = cursor.binds();
             }
         }
-        if cursor.binds() < least {
+        if binds < least {
             Ok(found)
         } else {
             Err(cursor.refuse())
         }
+    }
+
+    #[tactic(auto, unfolding(hph_fexpr::specs::Climb::climbed))]
+    fn climbed(
+        &self,
+        cursor: &mut Cursor<'_>,
+        least: u8,
+        alone: bool,
+    ) -> Result<Boxed<Expr>, ParseFault>
+        requires { Nests self.now.below.parts.depth (F.pre self.now.below.parts.nested) (F.post self.now.below.parts.nested) }
+        ensures { Reads (spec.climbed (parse self.now.below.parts.depth) alone self.now.below.parts.depth least cursor.old) result cursor.new }
+    {
+        let found = self.term(cursor, alone)?;
+        self.climb(cursor, least, found)
     }
 
     /// An expression of a level, whose parts nest one deeper.
@@ -159,7 +175,15 @@ impl<F: Fn(Global, &mut Cursor<'_>, usize, Form) -> Result<Boxed<Expr>, ParseFau
         requires { Nests self.now.below.parts.depth (F.pre self.now.below.parts.nested) (F.post self.now.below.parts.nested) }
         ensures { Reads (spec.one_level (parse self.now.below.parts.depth) self.now.below.parts.depth least cursor.old) result cursor.new }
     {
-        let found = self.term(cursor)?;
-        self.climb(cursor, least, found)
+        self.climbed(cursor, least, false)
+    }
+
+    /// An expression, or what is only written, whose parts nest one deeper.
+    #[tactic(auto, unfolding(hph_fexpr::specs::Climb::one_element))]
+    pub fn one_element(&self, cursor: &mut Cursor<'_>) -> Result<Boxed<Expr>, ParseFault>
+        requires { Nests self.now.below.parts.depth (F.pre self.now.below.parts.nested) (F.post self.now.below.parts.nested) }
+        ensures { Reads (spec.one_element (parse self.now.below.parts.depth) self.now.below.parts.depth cursor.old) result cursor.new }
+    {
+        self.climbed(cursor, 1, true)
     }
 }

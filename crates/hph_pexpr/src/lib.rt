@@ -11,5 +11,5 @@ mod public;
 mod terms;
 mod written;
 
-pub use parser::{nested, nested_elements, nested_paths};
+pub use parser::{nested, nested_elements, nested_paths, nested_source};
 pub use public::expr;

@@ -25,6 +25,7 @@ impl<F: Fn(Global, &mut Cursor<'_>, usize, Form) -> Result<Boxed<Expr>, ParseFau
         match form {
             Form::Level(least) => self.one_level(cursor, least),
             Form::Postfix => self.below.postfix(cursor),
+            Form::Element => self.one_element(cursor),
         }
     }
 }
@@ -72,6 +73,22 @@ pub fn nested_paths(
         nested,
     }
     .paths(cursor, test)
+}
+
+/// A path behind `&`, which nests no deeper than `depth`.
+pub fn nested_source(
+    alloc: Global,
+    cursor: &mut Cursor<'_>,
+    depth: usize,
+) -> Result<Boxed<Expr>, ParseFault>
+    ensures { Reads (arrays.source (parse depth) cursor.old) result cursor.new }
+{
+    Grammar {
+        alloc,
+        depth,
+        nested,
+    }
+    .source(cursor)
 }
 
 /// Elements and holes behind the bracket that opens, which nest no deeper than `depth`, up to the one that closes.

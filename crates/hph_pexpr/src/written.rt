@@ -3,9 +3,9 @@
 ghost use Rattle.hph_cursor.specs.Reads.{Reads, ReadsAs};
 ghost use Rattle.hph_enclosed.specs.Nests.{Nests};
 ghost use Rattle.hph_fexpr.specs.Parser.{parse};
-ghost use Rattle.std.specs.Prelude.{suc, Some, None, if◌then◌else◌};
+ghost use Rattle.std.specs.Prelude.{◌≡◌, suc, ◌&&◌, ◌||◌, Some, None, if◌then◌else◌, nat_lt};
 ghost use Rattle.hph_ast.specs.declared.expr.Expr.TheVariants as e;
-ghost use Rattle.hph_ast.specs.Levels.{assign_level};
+ghost use Rattle.hph_ast.specs.Levels.{assign_level, next};
 ghost use Rattle.hph_ast.specs.Places as places;
 ghost use Rattle.hph_ast.specs.Shapes.{is_read, is_written, is_source};
 ghost use Rattle.hph_fexpr.specs.Terms as spec;
@@ -19,14 +19,22 @@ use hph_fexpr::Form;
 use sqlite_items::Boxed;
 use std::alloc::Global;
 
-/// A path that is read, behind which nothing stands that writes it.
-fn read(cursor: &Cursor<'_>, path: Boxed<Expr>) -> Result<Boxed<Expr>, ParseFault>
-    ensures { Reads (if is_read path then Some (path, cursor.now) else None) result cursor.now }
+/// Whether a path is only written, and ends where an element may stand alone.
+fn stands_alone(cursor: &Cursor<'_>, path: &Expr, alone: bool) -> bool
+    ensures { result ≡ (alone && (is_written path.now && nat_lt (next cursor.now) 1)) }
 {
-    if !is_read(path.get()) {
-        return Err(cursor.refuse());
+    alone && (is_written(path) && cursor.binds() < 1)
+}
+
+/// A path that is read, behind which nothing stands that writes it; or, where an element may stand alone, one that is written.
+fn unused(cursor: &Cursor<'_>, path: Boxed<Expr>, alone: bool) -> Result<Boxed<Expr>, ParseFault>
+    ensures { Reads (if (alone && (is_written path && nat_lt (next cursor.now) 1)) || is_read path then Some (path, cursor.now) else None) result cursor.now }
+{
+    if stands_alone(cursor, path.get(), alone) || is_read(path.get()) {
+        Ok(path)
+    } else {
+        Err(cursor.refuse())
     }
-    Ok(path)
 }
 
 impl<F: Fn(Global, &mut Cursor<'_>, usize, Form) -> Result<Boxed<Expr>, ParseFault>> Operators<F> {
@@ -143,9 +151,10 @@ impl<F: Fn(Global, &mut Cursor<'_>, usize, Form) -> Result<Boxed<Expr>, ParseFau
         &self,
         cursor: &mut Cursor<'_>,
         path: Boxed<Expr>,
+        alone: bool,
     ) -> Result<Boxed<Expr>, ParseFault>
         requires { Nests self.now.below.parts.depth (F.pre self.now.below.parts.nested) (F.post self.now.below.parts.nested) }
-        ensures { Reads (spec.path_used self.now.below.parts.depth (parse self.now.below.parts.depth) path cursor.old) result cursor.new }
+        ensures { Reads (spec.path_used self.now.below.parts.depth (parse self.now.below.parts.depth) alone path cursor.old) result cursor.new }
     {
         if let Some(form) = cursor.post_update() {
             return self.updated(cursor, path, form);
@@ -153,6 +162,6 @@ impl<F: Fn(Global, &mut Cursor<'_>, usize, Form) -> Result<Boxed<Expr>, ParseFau
         if let Some(operator) = cursor.assignment() {
             return self.written(cursor, path, operator);
         }
-        read(cursor, path)
+        unused(cursor, path, alone)
     }
 }

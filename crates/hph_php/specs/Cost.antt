@@ -97,6 +97,7 @@ abbrev pub param_nodes : Param → ℕ
 param_nodes p = suc (maybe (λ type. 1) p.ty + maybe nodes p.default)
 
 abbrev pub target_nodes : ForeachTarget → ℕ
+target_nodes (target.Reference x ampersand) = nodes x
 target_nodes (target.Destructure bracket items) = total_of item_nodes items
 target_nodes _ = 0
 

@@ -69,7 +69,7 @@ names_of names = map (λ (i : Identifier). i.spelled) names
 -- a target that is no variable is refused
 abbrev pub target_name : ForeachTarget → Name
 target_name (target.Variable name) = name.spelled
-target_name (target.Reference name ampersand) = name.spelled
+target_name (target.Reference x ampersand) = []
 target_name (target.Destructure bracket items) = []
 
 -- what a declaration means where it stands: that of a function, and that of a class

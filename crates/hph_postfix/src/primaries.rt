@@ -15,7 +15,7 @@ use hph_fexpr::{Elements, Form};
 use sqlite_items::{Boxed, Items};
 use std::alloc::Global;
 
-/// An array of elements without holes.
+/// An array of elements of which none stands in a destructuring alone.
 pub fn array_of(
     alloc: Global,
     cursor: &Cursor<'_>,
@@ -25,7 +25,7 @@ pub fn array_of(
 ) -> Result<Boxed<Expr>, ParseFault>
     ensures { Reads (spec.array_of opening.now form found cursor.now) result cursor.now }
 {
-    if found.holes {
+    if found.targets {
         return Err(cursor.refuse());
     }
     Ok(Boxed::new(

@@ -177,7 +177,7 @@ static_variable v = bind (maybe_expression v.value) (λ value. give (record { na
 
 abbrev pub foreach_target : ForeachTarget → Numbered ForeachTarget
 foreach_target (target.Variable name) = give (target.Variable name)
-foreach_target (target.Reference name ampersand) = give (target.Reference name ampersand)
+foreach_target (target.Reference x ampersand) = bind (expression x) (λ x. give (target.Reference x ampersand))
 foreach_target (target.Destructure bracket items) = bind (each (map item items)) (λ items. give (target.Destructure bracket items))
 
 abbrev pub function_by : Function-F (Numbered Member) (Numbered Statement) (Numbered Class) (Numbered Function) (Numbered Case) (Numbered ElseIf) → Numbered Function

@@ -6,7 +6,7 @@ ghost use Rattle.hph_fstmt.specs.Statements as statements;
 
 use hph_ast::{Binary, ForeachTarget, Identifier, Kind, Mark, Token};
 use hph_cursor::{Cursor, ParseFault};
-use hph_parts::words::{identifier, sees_second, variable};
+use hph_parts::words::{identifier, sees_second};
 use hph_parts::{Expressions, Parts};
 use std::alloc::Global;
 
@@ -52,9 +52,9 @@ fn referenced<E: Expressions>(
 ) -> Result<ForeachTarget, ParseFault>
     ensures { Reads (statements.referenced spec.expressions ampersand.now cursor.old) result cursor.new }
 {
-    let name = variable(parts.alloc, cursor)?;
+    let source = parts.expressions.source(parts.alloc, cursor)?;
     Ok(ForeachTarget::Reference {
-        name,
+        source,
         ampersand: ampersand.start,
     })
 }

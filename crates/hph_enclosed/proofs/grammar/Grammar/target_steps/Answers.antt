@@ -17,9 +17,9 @@ returns-in_err-target_property g c =
     let e = one_more (λ n. spec.target_steps_from (parse c.args.self.now.depth) n c.loop-turn.found c.loop-turn.cursor) _ c.loop-turn._turn c.loop-turn-test.true c.loop-turn.invariant in
     first_of (search rules, grind (arith, common_steps))
 
-pub returns-then-sees-3 : goal.returns-then-sees-3
+pub returns-in_err-target_static_property : goal.returns-in_err-target_static_property
 unfolding spec.target_steps_from
-returns-then-sees-3 g c =
+returns-in_err-target_static_property g c =
     let e = one_more (λ n. spec.target_steps_from (parse c.args.self.now.depth) n c.loop-turn.found c.loop-turn.cursor) _ c.loop-turn._turn c.loop-turn-test.true c.loop-turn.invariant in
     first_of (search rules, grind (arith, common_steps))
 

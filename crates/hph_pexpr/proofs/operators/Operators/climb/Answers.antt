@@ -8,21 +8,21 @@ use Rattle.hph_pexpr.proofs.operators.Operators.climb.Goals as goal
 
 pub returns-in_err-found : goal.returns-in_err-found
 returns-in_err-found g c =
-    let at : levels.next c.loop-level.cursor ≡ c.loop-level.level - 1 = omega (arith, c.binds.ensures, c.if-binds-level.true) in
+    let at : levels.next c.loop-level.cursor ≡ c.loop-level.level - 1 = omega (arith, c.loop-level.invariant.bound, c.if-binds-level.true) in
     let e = c.loop-level.invariant.same ∙ climb_here (parse c.args.self.now.below.parts.depth) c.args.least c.loop-level.level c.loop-level.found c.loop-level.cursor (omega arith) at in
     first_of (search rules, grind (arith, common_steps))
 
 pub loop-level-preserved-then-binds-level : goal.loop-level-preserved-then-binds-level
 loop-level-preserved-then-binds-level g c =
-    let at : levels.next c.loop-level.cursor ≡ c.loop-level.level - 1 = omega (arith, c.binds.ensures, c.if-binds-level.true) in
+    let at : levels.next c.loop-level.cursor ≡ c.loop-level.level - 1 = omega (arith, c.loop-level.invariant.bound, c.if-binds-level.true) in
     let e = c.loop-level.invariant.same ∙ climb_here (parse c.args.self.now.below.parts.depth) c.args.least c.loop-level.level c.loop-level.found c.loop-level.cursor (omega arith) at in
-    record { small = omega arith; same = first_of (search rules, grind (arith, common_steps)) }
+    record { small = omega arith; bound = first_of (search rules, grind (arith, common_steps)); same = first_of (search rules, grind (arith, common_steps)) }
 
 pub loop-level-preserved : goal.loop-level-preserved
 loop-level-preserved g c =
-    let at : levels.next c.loop-level.cursor ≢ c.loop-level.level - 1 = omega (arith, c.binds.ensures, c.if-binds-level.false) in
+    let at : levels.next c.loop-level.cursor ≢ c.loop-level.level - 1 = omega (arith, c.loop-level.invariant.bound, c.if-binds-level.false) in
     let e = c.loop-level.invariant.same ∙ climb_past (parse c.args.self.now.below.parts.depth) c.args.least c.loop-level.level c.loop-level.found c.loop-level.cursor (omega arith) at in
-    record { small = omega arith; same = e }
+    record { small = omega arith; bound = c.loop-level.invariant.bound; same = e }
 
 pub returns-then-binds-least : goal.returns-then-binds-least
 returns-then-binds-least g c =

@@ -11,7 +11,7 @@ use Rattle.hph_ast.specs.declared.expr.Item.{Item}
 use Rattle.hph_ast.specs.declared.expr.ClassReference.{ClassReference}
 use Rattle.hph_ast.specs.declared.expr.MemberName.{MemberName}
 use Rattle.hph_ast.specs.declared.expr.Step.{Step}
-use Rattle.hph_ast.specs.Expressions.{IsExpression, IsTail, IsShorts, IsInstances, IsTerm, IsPostfix, GoesOn, GoesOnByCall, IsSteps, IsStep, IsMember, IsScoped, IsPrimary, IsParts, IsInterpolation, IsArguments, IsArgument, IsMaybeArguments, IsItems, IsItem, IsTargets, IsPaths, IsTarget, IsTargetSteps}
+use Rattle.hph_ast.specs.Expressions.{IsExpression, IsTail, IsShorts, IsInstances, IsTerm, IsPostfix, GoesOn, GoesOnByCall, IsSteps, IsStep, IsMember, IsScoped, IsPrimary, IsParts, IsInterpolation, IsArguments, IsArgument, IsMaybeArguments, IsItems, IsItem, IsTargets, IsElement, IsWrittenOnly, IsPaths, IsTarget, IsTargetSteps}
 use Rattle.hph_ast.specs.Expressions as g
 
 mutual
@@ -142,11 +142,21 @@ mutual
   item_shorter (g.reference _ d1 _) = omega (arith, postfix_shorter d1)
   item_shorter (g.pair_reference d0 _ _ d3 _) = omega (arith, expression_shorter d0, postfix_shorter d3)
 
-  pub targets_shorter : {ts : List Token} {a1 : List Item} {rest : List Token} → IsTargets ts a1 rest → length rest < length ts
+  pub targets_shorter : {ts : List Token} {a1 : List Item} {a2 : Token} {rest : List Token} → IsTargets ts a1 a2 rest →
+      length rest < length ts
   targets_shorter (g.targets_end _) = omega arith
-  targets_shorter (g.targets_last d0 _) = omega (arith, item_shorter d0)
-  targets_shorter (g.targets_more d0 _ d2) = omega (arith, item_shorter d0, targets_shorter d2)
+  targets_shorter (g.targets_last d0 _) = omega (arith, element_shorter d0)
+  targets_shorter (g.targets_more d0 _ d2) = omega (arith, element_shorter d0, targets_shorter d2)
   targets_shorter (g.targets_hole _ d1) = omega (arith, targets_shorter d1)
+
+  pub element_shorter : {ts : List Token} {a1 : Item} {rest : List Token} → IsElement ts a1 rest → length rest < length ts
+  element_shorter (g.element_item d0) = omega (arith, item_shorter d0)
+  element_shorter (g.element d0) = omega (arith, written_only_shorter d0)
+  element_shorter (g.element_pair d0 _ d2) = omega (arith, expression_shorter d0, written_only_shorter d2)
+
+  pub written_only_shorter : {ts : List Token} {a1 : Expr} {rest : List Token} → IsWrittenOnly ts a1 rest → length rest < length ts
+  written_only_shorter (g.appended d0 _ _) = omega (arith, postfix_shorter d0)
+  written_only_shorter (g.nested_targets _ d1 _) = omega (arith, targets_shorter d1)
 
   pub paths_shorter : {a0 : (Expr → Bool)} {ts : List Token} {a2 : List Expr} {a3 : Token} {rest : List Token} → IsPaths a0 ts a2 a3 rest →
       length rest < length ts
@@ -163,3 +173,4 @@ mutual
   target_steps_shorter (g.target_end _) = omega arith
   target_steps_shorter (g.target_index _ d1 _ d3) = omega (arith, expression_shorter d1, target_steps_shorter d3)
   target_steps_shorter (g.target_property _ d1 d2) = omega (arith, member_shorter d1, target_steps_shorter d2)
+  target_steps_shorter (g.target_static_property _ _ d2) = omega (arith, target_steps_shorter d2)
