@@ -22,7 +22,7 @@ use Rattle.hph_ast.specs.Places.{with_steps}
 use Rattle.hph_ast.specs.Shapes.{is_written}
 use Rattle.hph_ast.specs.Terminals.{IsClass, IsKey}
 use Rattle.hph_ast.specs.Terminals as terminal
-use Rattle.hph_ast.specs.Expressions.{IsExpression, IsTail, IsShorts, IsInstances, IsTerm, IsPostfix, GoesOn, GoesOnByCall, IsSteps, IsStep, IsMember, IsScoped, IsPrimary, IsParts, IsInterpolation, IsArguments, IsArgument, IsMaybeArguments, IsItems, IsItem, IsTargets, IsPaths, IsTarget, IsTargetSteps}
+use Rattle.hph_ast.specs.Expressions.{IsExpression, IsTail, IsShorts, IsInstances, IsTerm, IsPostfix, GoesOn, GoesOnByCall, IsSteps, IsStep, IsMember, IsScoped, IsPrimary, IsParts, IsInterpolation, IsArguments, IsArgument, IsMaybeArguments, IsItems, IsItem, IsTargets, IsElement, IsWrittenOnly, IsPaths, IsTarget, IsTargetSteps}
 use Rattle.hph_ast.specs.Expressions as g
 use Rattle.hph_php.specs.Cost.{nodes, item_nodes, total, total_of}
 use Rattle.hph_program.specs.WellFormed.{IsIntOfPrograms}
@@ -252,11 +252,21 @@ mutual
   item (g.reference _ d _) = of_item_reference _ (pays_one (then_none (postfix d).chain))
   item (g.pair_reference d _ _ d3 _) = of_item_keyed_reference _ _ (between (expression d).chain (behind (then_none (postfix d3).chain)))
 
-  pub targets : {ts rest : List Token} {xs : List Item} → IsTargets ts xs rest → SpeltItems ts xs rest
+  pub targets : {ts rest : List Token} {xs : List Item} {c : Token} → IsTargets ts xs c rest → SpeltItems ts xs rest
   targets (g.targets_end _) = behind nothing
-  targets (g.targets_last d _) = both (item d).chain nothing
-  targets (g.targets_more d _ d2) = both (item d).chain (targets d2)
+  targets (g.targets_last d _) = both (element d).chain nothing
+  targets (g.targets_more d _ d2) = both (element d).chain (targets d2)
   targets (g.targets_hole _ d) = both (of_item_hole (pays_one nothing)).chain (targets d)
+
+  -- with the token behind it
+  element : {ts rest : List Token} {x : Item} {t : Token} → IsElement ts x (t ∷ rest) → SpeltItem ts x rest
+  element (g.element_item d) = item d
+  element (g.element d) = of_item_plain _ (then_one (written_only d).chain)
+  element (g.element_pair d _ d2) = of_item_keyed _ _ (between (expression d).chain (then_none (written_only d2).chain))
+
+  written_only : {ts rest : List Token} {x : Expr} → IsWrittenOnly ts x rest → Spelt ts x rest
+  written_only (g.appended d _ _) = postfix d
+  written_only (g.nested_targets _ d _) = of_array _ (pays_one (targets d))
 
   paths : {test : Expr → Bool} {ts rest : List Token} {xs : List Expr} {t : Token} → IsPaths test ts xs t rest → SpeltAll ts xs rest
   paths (g.paths_last d _ _ _) = both (then_none (postfix d).chain) nothing
@@ -272,3 +282,5 @@ mutual
   target_steps (g.target_end _) = none
   target_steps (g.target_index _ d _ d3) = listed (of_step_index _ (pays_one (then_none (expression d).chain))).chain (target_steps d3)
   target_steps (g.target_property _ d d2) = listed (of_step_property _ (pays_two (member d).chain)).chain (target_steps d2)
+  target_steps (g.target_static_property _ _ d) =
+      listed (of_step_property _ (pays_two (of_name_computed _ (of_variable (pays_one nothing)).chain).chain)).chain (target_steps d)

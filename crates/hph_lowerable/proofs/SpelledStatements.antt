@@ -135,7 +135,7 @@ total_is (x ∷ xs) = ap (λ n. item_nodes x + n) (total_is xs)
 
 foreach_target : {ts rest : List Token} {t : ForeachTarget} → IsForeachTarget ts t rest → Chain ts (target_nodes t) true rest
 foreach_target (g.to_variable _) = behind nothing
-foreach_target (g.to_reference _ _) = behind (behind nothing)
+foreach_target (g.to_reference _ d _) = unasked (behind (postfix d).chain)
 foreach_target {rest = rest} (g.to_items {ts = ts} {o = o} {items = items} _ d) =
     subst (λ n. Chain (o ∷ ts) n true rest) (total_is items) (unasked (behind (targets d)))
 

@@ -59,7 +59,7 @@ param_nodes_kept p n = λ i. suc (type_nodes_kept p.ty (suc n) i + maybe_nodes_k
 
 target_nodes_kept : (t : ForeachTarget) (n : ℕ) → target_nodes (foreach_target t n).0 ≡ target_nodes t
 target_nodes_kept (target.Variable name) n = refl
-target_nodes_kept (target.Reference name ampersand) n = refl
+target_nodes_kept (target.Reference x ampersand) n = nodes_kept x n
 target_nodes_kept (target.Destructure bracket items) n = total_kept item_nodes item item_nodes_kept items n
 
 constant_nodes_kept : (i : ConstantItem) → Kept (λ (i : ConstantItem). suc (nodes i.value)) constant_item i
@@ -176,7 +176,8 @@ param_names_kept ps n = each_kept (λ (p : Param). p.name) param (λ p n. refl) 
 
 target_refused_kept : (t : ForeachTarget) (n : ℕ) → target_refused (foreach_target t n).0 ≡ target_refused t
 target_refused_kept (target.Variable name) n = refl
-target_refused_kept (target.Reference name ampersand) n = refl
+target_refused_kept (target.Reference x ampersand) n = λ i ctx. (c.RefElement, ampersand)
+    ∷ (this_written (part_kept x n i) ++ (part_kept x n i).refused ctx)
 target_refused_kept (target.Destructure bracket items) n = λ i ctx. (c.Destructure, bracket) ∷ all_refused_kept item_found item item_found_kept items n i ctx
 
 unset_refused_kept : (x : Expr) → Kept unset_refused expression x
