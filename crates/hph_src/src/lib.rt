@@ -10,8 +10,6 @@ mod memory;
 mod script;
 mod sink;
 mod std_sink;
-#[cfg(test)]
-mod tests;
 mod tree;
 
 pub use dir_tree::DirTree;

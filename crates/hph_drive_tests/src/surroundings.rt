@@ -1,4 +1,4 @@
-use crate::{
+use hph_src::{
     DirTree, Gate, MemSink, MemTree, NoGate, Point, PutAnswer, ReadAnswer, ScriptSink, ScriptTree,
     Sink, StdSink, Tree,
 };
