@@ -63,7 +63,7 @@ item_no_arrow : {ts rest : List Token} {x : Item} → IsItem ts x rest → sees 
 item_no_arrow (i.value d) = not_first m.DoubleArrow refl (expression_begins d)
 item_no_arrow (i.pair d arrow f) = not_first m.DoubleArrow refl (expression_begins d)
 item_no_arrow (i.reference is d _) = ap (is_mark m.DoubleArrow) is
-item_no_arrow (i.pair_reference d arrow is f source) = not_first m.DoubleArrow refl (expression_begins d)
+item_no_arrow (i.pair_reference d arrow is f _) = not_first m.DoubleArrow refl (expression_begins d)
 
 written_no_arrow : {ts rest : List Token} {x : Expr} → IsWrittenOnly ts x rest → sees m.DoubleArrow ts ≡ false
 written_no_arrow (i.appended d unread is) = not_first m.DoubleArrow refl (postfix_begins d)
@@ -86,7 +86,7 @@ no_key_before : {ts rest : List Token} {value : ForeachTarget} {c : Token} → I
 unfolding p.foreach_key
 no_key_before (g.to_variable is) mark = if_false _ _ (ap (is_mark m.DoubleArrow) mark) refl
 no_key_before (g.to_reference {ts = []} amp d _) mark = refl
-no_key_before (g.to_reference {ts = q ∷ ts} amp d source) mark = if_false _ _ (not_first m.DoubleArrow refl (postfix_begins d)) refl
+no_key_before (g.to_reference {ts = q ∷ ts} amp d _) mark = if_false _ _ (not_first m.DoubleArrow refl (postfix_begins d)) refl
 no_key_before (g.to_items {ts = []} o d) mark = refl
 no_key_before (g.to_items {ts = q ∷ ts} o d) mark = if_false _ _ (targets_no_arrow d) refl
 
