@@ -1,5 +1,5 @@
 -- What a step of a parser that answers something tells, and what makes it answer: for the parsers on lists of tokens.
-use Rattle.std.specs.Prelude.{◌≡◌, Bool, true, false, ◌&&◌, ◌||◌, List, [], ◌∷◌, ◌++◌, Option, Some, None, if◌then◌else◌, refl}
+use Rattle.std.specs.Prelude.{◌≡◌, Bool, true, false, ◌&&◌, List, [], ◌∷◌, ◌++◌, Option, Some, None, if◌then◌else◌, refl}
 use Rattle.std.proofs.Common.{ap, sym, subst, ◌∙◌, append_assoc, append-nil}
 use denote.Enum.Bare.{same_true, true_same}
 use Rattle.hph_ast.specs.contracts.token.Mark.{the_type}
@@ -7,7 +7,6 @@ use Rattle.hph_ast.specs.declared.token.Token.{Token}
 use Rattle.hph_ast.specs.declared.token.Kind.{Kind}
 use Rattle.hph_ast.specs.declared.token.Kind.TheVariants as k
 use Rattle.hph_ast.specs.declared.token.Mark.{Mark}
-use Rattle.hph_ast.specs.declared.token.Mark.TheVariants as m
 use Rattle.hph_ast.specs.Terminals.{IsMark}
 use Rattle.hph_cursor.specs.Next.{of_next, is_next}
 use Rattle.hph_cursor.specs.Steps.{choose, Outcome, Parser, and_then, is_mark, sees, take_token, expect}

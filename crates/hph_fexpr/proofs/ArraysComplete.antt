@@ -26,7 +26,7 @@ use Rattle.hph_fexpr.specs.Arrays as p
 use Rattle.hph_fexpr.proofs.Written.{expression_read, item_read}
 use Rattle.hph_fexpr.proofs.Tools.{or_assoc, or_false, or_true, then_is, if_true, if_false, mark_is, expect_is}
 use Rattle.hph_cursor.proofs.Shorter.{element_shorter, item_shorter, items_shorter, targets_shorter}
-use Rattle.hph_fexpr.proofs.Firsts.{begins_none, Complete, closed_is, mark_ends, mark_stops, no_ampersand, expression_heads, written_only_heads, value_heads, item_not_first, element_not_first}
+use Rattle.hph_fexpr.proofs.Firsts.{begins_none, Complete, mark_ends, mark_stops, no_ampersand, expression_heads, value_heads, item_not_first, element_not_first}
 
 -- what may follow an element
 record Follows (rest : List Token) : Type 0 where

@@ -22,9 +22,9 @@ use Rattle.hph_fexpr.specs.declared.form.Form.TheVariants.{Postfix, Element}
 use Rattle.hph_fexpr.specs.declared.elements.Elements.{Elements}
 use Rattle.hph_cursor.specs.Steps.{Parser, sees}
 use Rattle.hph_cursor.specs.Next.{is_ampersand}
-use Rattle.hph_fexpr.specs.Endings.{WholeValue, IsValue, expression, only_written}
+use Rattle.hph_fexpr.specs.Endings.{IsValue, expression, only_written}
 use Rattle.hph_fexpr.specs.Arrays as p
-use Rattle.hph_fexpr.proofs.Written.{item_read, value_is, written_is}
+use Rattle.hph_fexpr.proofs.Written.{value_is, written_is}
 use Rattle.hph_fexpr.proofs.Tools.{both_false, never, or_assoc, or_false, or_true, Gives, none, some, then_ok, map_ok, if_ok, is_mark_true, sees_at, sees_with, next_at, next_with, expect_with, Sound, shift}
 
 pub ampersand_true : (kind : Kind) → is_ampersand kind ≡ true → kind ≡ k.Operator b.BitAnd

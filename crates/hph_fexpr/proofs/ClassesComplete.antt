@@ -123,7 +123,6 @@ module _ (laws : NestingLaws) (depth : ℕ) (below : Form → Parser Expr) (all 
       (then_is _ (then_is _ (member_is d (omega (arith, laws.step_property (span (on t) (on l)) name))) refl)
       (target_steps_from_is n (found ++ step ∷ []) more (omega (arith, member_shorter d)) (omega arith)
       ∙ ap (λ ss. Some (ss, rest)) (append_assoc found (step ∷ []) steps))))
-
   target_steps_from_is (suc turns) found
       (g.target_static_property {ts = ts} {rest = rest} {t = t} {l = l} {name = name} {steps = steps} colons is more) short small =
       let step = s.Property (span (on t) (on l)) (n.Computed (e.Variable (on l) name)) in

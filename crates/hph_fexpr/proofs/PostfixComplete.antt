@@ -22,7 +22,7 @@ use Rattle.hph_fexpr.specs.Endings.{Ends}
 use Rattle.hph_cursor.specs.Steps.{Parser, sees, is_mark}
 use Rattle.hph_fexpr.specs.Postfix as p
 use Rattle.hph_fexpr.proofs.Tools.{then_is, if_true, if_false, mark_is, expect_is, opens_sees}
-use Rattle.hph_cursor.proofs.Shorter.{expression_shorter, step_shorter, steps_shorter, member_shorter, arguments_shorter, scoped_shorter}
+use Rattle.hph_cursor.proofs.Shorter.{expression_shorter, step_shorter, steps_shorter, member_shorter}
 use Rattle.hph_fexpr.proofs.Firsts.{Complete, closed_is, not_first, expression_heads}
 use Rattle.hph_fexpr.proofs.NestingGrows.{goes_on_deep, by_call_deep, steps_deep, with_steps_deep, scoped_deep, primary_positive}
 use Rattle.hph_fexpr.proofs.ListsComplete.{arguments_is}

@@ -4,7 +4,7 @@ use Rattle.hph_ast.specs.declared.expr.Expr.{Expr}
 use Rattle.hph_fexpr.specs.declared.form.Form.{Form}
 use Rattle.hph_fexpr.specs.declared.form.Form.TheVariants.{Level, Postfix, Element}
 use Rattle.hph_ast.specs.declared.token.Token.{Token}
-use Rattle.hph_cursor.specs.Steps.{Parser, Outcome}
+use Rattle.hph_cursor.specs.Steps.{Parser}
 use Rattle.hph_fexpr.specs.Parser.{one_form, kept, parse}
 use Rattle.hph_fexpr.proofs.Tools.{none, some, Gives, then_ok, if_ok, Sound}
 use Rattle.hph_fexpr.proofs.PostfixSound.{postfix_ok}

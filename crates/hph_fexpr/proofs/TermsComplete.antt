@@ -236,7 +236,7 @@ module _ (laws : NestingLaws) (depth : ℕ) (below : Form → Parser Expr) (all 
       let low : next rest < top = omega arith in
       let ends : nat_lt (next rest) 1 ≡ true = grind (arith, nat_tests, h) in
       let both : ((true && (is_written x && nat_lt (next rest) 1)) || is_read x) ≡ true =
-          ap (λ b. (b && nat_lt (next rest) 1) || is_read x) written ∙ ap (λ b. b || is_read x) ends in
+      ap (λ b. (b && nat_lt (next rest) 1) || is_read x) written ∙ ap (λ b. b || is_read x) ends in
       path_first laws depth below all true d small (ends_by low) (no_set x rest low)
       (choose_none _ _ (no_update rest low) (choose_none _ _ (no_assignment rest low) (if_true _ _ both refl)))
   written_only_is (g.nested_targets {rest = rest} {o = o} {c = c} {items = items} opens d has) small h =

@@ -1,24 +1,19 @@
 -- What a step of a parser that answers something tells, and what makes it answer.
-use Rattle.std.specs.Prelude.{◌≡◌, Bool, true, false, ◌&&◌, ◌||◌, List, [], ◌∷◌, ◌++◌, Option, Some, None, if◌then◌else◌, refl}
-use Rattle.std.proofs.Common.{ap, sym, subst, ◌∙◌, append_assoc, append-nil}
-use denote.Enum.Bare.{same_true, true_same}
-use Rattle.hph_ast.specs.contracts.token.Mark.{the_type}
+use Rattle.std.specs.Prelude.{◌≡◌, Bool, true, false, ◌&&◌, ◌||◌, List, [], ◌∷◌, ◌++◌, refl}
+use Rattle.std.proofs.Common.{sym, subst, append-nil}
 use Rattle.hph_ast.specs.declared.token.At.{At}
 use Rattle.hph_ast.specs.declared.token.Token.{Token}
 use Rattle.hph_ast.specs.declared.token.Kind.{Kind}
 use Rattle.hph_ast.specs.declared.token.Kind.TheVariants as k
-use Rattle.hph_ast.specs.declared.token.Mark.{Mark}
 use Rattle.hph_ast.specs.declared.token.Mark.TheVariants as m
 use Rattle.hph_ast.specs.declared.expr.Expr.{Expr}
 use Rattle.hph_ast.specs.Levels.{opens, is_open_paren}
 use Rattle.hph_ast.specs.Places.{on}
-use Rattle.hph_ast.specs.Terminals.{IsMark}
 use Rattle.hph_ast.specs.Expressions.{IsPostfix}
 use Rattle.hph_fexpr.specs.declared.form.Form.{Form}
 use Rattle.hph_fexpr.specs.declared.form.Form.TheVariants.{Level, Postfix, Element}
-use Rattle.hph_cursor.specs.Next.{of_next, is_next}
 use Rattle.hph_fexpr.specs.Endings.{Whole, WholeValue}
-use Rattle.hph_cursor.specs.Steps.{choose, Outcome, Parser, and_then, is_mark, sees, take_token, expect}
+use Rattle.hph_cursor.specs.Steps.{Parser, is_mark, sees}
 pub use Rattle.hph_cursor.proofs.Tools.{both_true, some_inj, Gives, then_ok, map_ok, choose_ok, if_ok, given, is_mark_true, sees_at, sees_with, choose_at, choose_with, next_at, next_with, take_at, take_with, expect_at, expect_with, shift, More, no_more, one_more, then_is, if_true, if_false, choose_some, choose_none, mark_is, expect_is, not_mark, none, some}
 
 pub both_false : (x y : Bool) → (x || y) ≡ false → (x ≡ false) × (y ≡ false)

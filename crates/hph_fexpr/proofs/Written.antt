@@ -1,6 +1,6 @@
 -- What is only written is told by its tree from what is read.
-use Rattle.std.specs.Prelude.{◌≡◌, ℕ, Bool, true, false, not, List, refl}
-use Rattle.std.proofs.Common.{ap, ◌∙◌}
+use Rattle.std.specs.Prelude.{◌≡◌, ℕ, true, false, not, List, refl}
+use Rattle.std.proofs.Common.{ap}
 use Rattle.hph_ast.specs.declared.token.Token.{Token}
 use Rattle.hph_ast.specs.declared.expr.Expr.{Expr, out-Expr}
 use Rattle.hph_ast.specs.declared.expr.Item.{Item, out-Item}
@@ -57,6 +57,7 @@ Reads x = is_read x ≡ true → is_written_only x ≡ false
 
 mutual
   unfolding out-Expr out
+
   by_call_reads : {x y : Expr} {ts rest : List Token} → GoesOnByCall x ts y rest → Reads x → Reads y
   by_call_reads g.ends h = h
   by_call_reads (g.method reads arrow d opens args more) h = goes_on_reads more (λ _. refl)

@@ -39,7 +39,7 @@ use Rattle.hph_fstmt.specs.Words.{is_keyword, sees_keyword, expect_kind}
 use Rattle.hph_fstmt.specs.Repeats.{at_end, many}
 use Rattle.hph_fstmt.specs.Statements as p
 use Rattle.hph_fstmt.proofs.Tools.{then_is, if_true, if_false, mark_is, expect_is}
-use Rattle.hph_fstmt.proofs.Keywords.{keyword_is, not_keyword, kind_is, name_is, variable_is}
+use Rattle.hph_fstmt.proofs.Keywords.{keyword_is, not_keyword, kind_is, name_is}
 use Rattle.hph_fstmt.proofs.Repeats.{Separated, last, more, ending, separated_is, Many, many_end, many_more, many_is}
 use Rattle.hph_cursor.proofs.Shorter.{expression_shorter}
 use Rattle.hph_fstmt.proofs.Shorter.{statement_shorter, test_shorter, label_shorter, statements_shorter}
@@ -62,8 +62,8 @@ paren_ends mark = record {
 item_no_arrow : {ts rest : List Token} {x : Item} → IsItem ts x rest → sees m.DoubleArrow ts ≡ false
 item_no_arrow (i.value d) = not_first m.DoubleArrow refl (expression_begins d)
 item_no_arrow (i.pair d arrow f) = not_first m.DoubleArrow refl (expression_begins d)
-item_no_arrow (i.reference is d source) = ap (is_mark m.DoubleArrow) is
-item_no_arrow (i.pair_reference d arrow is f source) = not_first m.DoubleArrow refl (expression_begins d)
+item_no_arrow (i.reference is d _) = ap (is_mark m.DoubleArrow) is
+item_no_arrow (i.pair_reference d arrow is f _) = not_first m.DoubleArrow refl (expression_begins d)
 
 written_no_arrow : {ts rest : List Token} {x : Expr} → IsWrittenOnly ts x rest → sees m.DoubleArrow ts ≡ false
 written_no_arrow (i.appended d unread is) = not_first m.DoubleArrow refl (postfix_begins d)
@@ -85,8 +85,8 @@ no_key_before : {ts rest : List Token} {value : ForeachTarget} {c : Token} → I
     p.foreach_key ts ≡ Some (None, ts)
 unfolding p.foreach_key
 no_key_before (g.to_variable is) mark = if_false _ _ (ap (is_mark m.DoubleArrow) mark) refl
-no_key_before (g.to_reference {ts = []} amp d source) mark = refl
-no_key_before (g.to_reference {ts = q ∷ ts} amp d source) mark = if_false _ _ (not_first m.DoubleArrow refl (postfix_begins d)) refl
+no_key_before (g.to_reference {ts = []} amp d _) mark = refl
+no_key_before (g.to_reference {ts = q ∷ ts} amp d _) mark = if_false _ _ (not_first m.DoubleArrow refl (postfix_begins d)) refl
 no_key_before (g.to_items {ts = []} o d) mark = refl
 no_key_before (g.to_items {ts = q ∷ ts} o d) mark = if_false _ _ (targets_no_arrow d) refl
 

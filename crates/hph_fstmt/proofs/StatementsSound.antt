@@ -26,7 +26,7 @@ use Rattle.hph_fexpr.specs.Arrays.{source, elements}
 use Rattle.hph_fstmt.specs.Words.{is_keyword, sees_keyword, expect_kind}
 use Rattle.hph_fstmt.specs.Repeats.{at_end, many}
 use Rattle.hph_fstmt.specs.Statements as p
-use Rattle.hph_fstmt.proofs.Tools.{Gives, none, some, then_ok, map_ok, if_ok, is_mark_true, sees_at, expect_at, expect_with, kind_at, kind_with, name_at, variable_at}
+use Rattle.hph_fstmt.proofs.Tools.{Gives, none, some, then_ok, map_ok, if_ok, is_mark_true, sees_at, expect_at, expect_with, kind_at, kind_with, name_at}
 use Rattle.hph_fstmt.proofs.Keywords.{keyword_true, keyword_at}
 use Rattle.hph_fstmt.proofs.Repeats.{Separated, last, more, separated_ok, Many, many_end, many_more, many_ok}
 use Rattle.hph_fstmt.proofs.DeclarationsSound.{SoundLevel, variables_ok, statics_ok, constants_ok}

@@ -1,18 +1,13 @@
 -- What a step of a parser that answers something tells, and what makes it answer.
-use Rattle.std.specs.Prelude.{◌≡◌, ℕ, Bool, true, false, ◌&&◌, List, [], ◌∷◌, ◌++◌, Option, Some, None, if◌then◌else◌, refl}
-use Rattle.std.proofs.Common.{ap, sym, subst, ◌∙◌, append_assoc, append-nil}
-use denote.Enum.Bare.{same_true, true_same}
-use Rattle.hph_ast.specs.contracts.token.Mark.{the_type}
+use Rattle.std.specs.Prelude.{◌≡◌, ℕ, Bool, true, false, List, [], ◌∷◌, ◌++◌, Some, None, if◌then◌else◌, refl}
+use Rattle.std.proofs.Common.{sym, subst}
 use Rattle.hph_ast.specs.declared.token.At.{At}
 use Rattle.hph_ast.specs.declared.token.Token.{Token}
 use Rattle.hph_ast.specs.declared.token.Identifier.{Identifier}
 use Rattle.hph_ast.specs.declared.token.Kind.{Kind}
 use Rattle.hph_ast.specs.declared.token.Kind.TheVariants as k
-use Rattle.hph_ast.specs.declared.token.Mark.{Mark}
 use Rattle.hph_ast.specs.Places.{on, identifier}
-use Rattle.hph_ast.specs.Terminals.{IsMark}
-use Rattle.hph_cursor.specs.Next.{of_next, is_next}
-use Rattle.hph_cursor.specs.Steps.{choose, Outcome, Parser, and_then, is_mark, sees, take_token, expect}
+use Rattle.hph_cursor.specs.Steps.{Outcome, Parser, and_then}
 use Rattle.hph_fstmt.specs.Words.{expect_kind, here, variable_by, variable, name_by, name}
 pub use Rattle.hph_cursor.proofs.Tools.{both_true, some_inj, Gives, then_ok, map_ok, choose_ok, if_ok, given, is_mark_true, sees_at, sees_with, choose_at, choose_with, next_at, next_with, take_at, take_with, expect_at, expect_with, shift, More, no_more, one_more, then_is, if_true, if_false, choose_some, choose_none, mark_is, expect_is, not_mark, none, some}
 

@@ -35,7 +35,7 @@ use Rattle.hph_cursor.specs.Steps.{Parser, ◌>>=◌, ◌>>◌, pure, pure_if, f
 use Rattle.hph_cursor.specs.Next.{is_next, is_variable}
 use Rattle.hph_fexpr.specs.Lists.{paths}
 use Rattle.hph_fexpr.specs.Arrays.{source, elements}
-use Rattle.hph_fstmt.specs.Words.{is_keyword, sees_keyword, expect_kind, here, variable, name}
+use Rattle.hph_fstmt.specs.Words.{is_keyword, sees_keyword, expect_kind, here, name}
 use Rattle.hph_fstmt.specs.Repeats.{separated, many}
 use Rattle.hph_fstmt.specs.Declarations.{variables, result_type, modifiers, maybe_type, static_variable, property_item, constant_item, params}
 
