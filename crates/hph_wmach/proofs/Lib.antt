@@ -3,3 +3,4 @@ pub mod Branches
 pub mod Ifs
 pub mod Zeros
 pub mod Entries
+pub mod Arguments

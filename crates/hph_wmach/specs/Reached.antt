@@ -1,16 +1,16 @@
 -- What a reduction has led to, as the machine tells it.
 use Rattle.std.specs.Prelude.{◌≡◌, ◌⊎◌, ◌≤◌, ◌<◌, ℕ, List, [], ◌∷◌, ◌++◌, length, take, drop, reverse, slice_get, slice_set, option_to_list, Bool, true, false, Option, Some, None}
-use Rattle.hph_wasm.specs.declared.instr.Instr.{Instr, Br}
+use Rattle.hph_wasm.specs.declared.instr.Instr.{Instr, Br, Call}
 use Rattle.hph_wasm.specs.declared.value.Value.{Value}
 use Rattle.hph_wasm.specs.declared.value.Value.TheVariants as value
 use Rattle.hph_wasm.specs.declared.types.ValType.{ValType}
 use Rattle.hph_wasm.specs.declared.types.ValType.TheVariants.{I32, I64}
 use Rattle.hph_wasm.specs.declared.module.Func.{Func}
 use Rattle.hph_wasm.specs.declared.module.Module.{Module}
-use Rattle.hph_wasm.specs.Values.{zero_values, value_of}
+use Rattle.hph_wasm.specs.Values.{zero_values, value_of, type_of, types}
 use Rattle.hph_wasm.specs.Outcome.{Done}
 use Rattle.hph_wasm.specs.Configuration.{Host, Label, Frame, Store, Setting, Configuration, Running, Calling, Trapped, Stuck, Ended}
-use Rattle.hph_wasm.specs.Reduction.{step, after_call, after_return, branch_step, return_step, end_of_code}
+use Rattle.hph_wasm.specs.Reduction.{arguments, step, after_call, after_return, branch_step, return_step, end_of_code}
 use Rattle.hph_wasm.specs.Memory.{stored}
 use Rattle.hph_integers.specs.declared.access.Access.{Access}
 use Rattle.hph_integers.specs.Accesses.{byte_count}
@@ -114,6 +114,21 @@ Pushes value old Goes new = new ≡ record old { values = value ∷ old.values }
 Pushes value old NoMemory new = Unit {0}
 Pushes value old _ new = ⊥
 
+-- The value at a place is of the type there.
+abbrev pub KindFits : List Value → List ValType → ℕ → Bool → Type 0
+KindFits values ts k true = (v : Value) × (slice_get values k ≡ Some v) × (slice_get ts k ≡ Some (type_of v))
+KindFits values ts k false = (v : Value) → slice_get values k ≡ Some v → slice_get ts k ≡ Some (type_of v) → ⊥
+
+-- Whether the values on top are of these types, the last one's topmost.
+abbrev pub AllFit : List ValType → List Value → Bool → Type 0
+AllFit params values true = types (take (length params) values) ≡ reverse params
+AllFit params values false = types (take (length params) values) ≡ reverse params → ⊥
+
+-- Whether there are arguments for parameters of these types.
+abbrev pub Holds : List ValType → List Value → Bool → Type 0
+Holds params values true = (length params ≤ length values) × (types (take (length params) values) ≡ reverse params)
+Holds params values false = arguments params values ≡ None
+
 -- The function that is left.
 abbrev pub Left : Core → Bool → Core → Type 0
 Left old true new = (frame : Frame) × (frames : List Frame) × (old.frames ≡ frame ∷ frames) × (new ≡ record {
@@ -210,3 +225,9 @@ Stood _ here old new = new ≡ old
 abbrev pub SteppedIn : {H E : Type 0} → Host H E → Module → (old : Core) → Next → (new : Core) → Type 0
 SteppedIn {H} {E} host m old next new = (h : H) →
     Reached (step host m (running old h)) (Trapped old.code (setting old h)) (Stuck old.code (setting old h)) next old new h
+
+-- The second reduction of a call.
+abbrev pub InvokedIn : {H E : Type 0} → Host H E → Module → ℕ → (old : Core) → Next → (new : Core) → Type 0
+InvokedIn {H} {E} host m f old next new = (h : H) →
+    Reached (step host m (Calling f old.code old.values (setting old h))) (Stuck (Call f ∷ old.code) (setting old h))
+    (Stuck (Call f ∷ old.code) (setting old h)) next old new h

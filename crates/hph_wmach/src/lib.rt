@@ -14,6 +14,7 @@ mod program;
 mod reduction;
 mod variables;
 
+pub use calls::enter;
 pub use control::branch;
 pub use layers::{Caller, Entered, Side};
 pub use locals::FrameLocals;

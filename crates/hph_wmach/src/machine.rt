@@ -1,13 +1,14 @@
 //! What a run has at hand between two reductions, without the host.
-ghost use Rattle.std.specs.Prelude.{◌≡◌, [], ◌∷◌, ◌++◌, length, take, drop, slice_get, option_to_list, ◌≤◌, MatchOption, OnOk, IfOk};
+ghost use Rattle.std.specs.Prelude.{◌≡◌, [], ◌∷◌, ◌++◌, length, take, drop, reverse, slice_get, ◌<◌, option_to_list, ◌≤◌, MatchOption, OnOk, IfOk};
+ghost use Rattle.hph_wasm.specs.Values.{type_of};
 ghost use Rattle.hph_wmach.specs.Core.{label_around, continuation_of, code_behind, Counts};
-ghost use Rattle.hph_wmach.specs.Reached.{Outside, Skipped, Left, TellsLabel, TellsFrame, Entered, LocalSet, GlobalSet, MemoryStored, Kept, Taken};
+ghost use Rattle.hph_wmach.specs.Reached.{Outside, Skipped, Left, TellsLabel, TellsFrame, Entered, LocalSet, GlobalSet, MemoryStored, KindFits, AllFit, Holds, Kept, Taken};
 
 use crate::layers as layer;
 use crate::locals::FrameLocals;
 use hph_integers::{Access, store};
 use hph_pile::Pile;
-use hph_wasm::{Func, Instr, Value};
+use hph_wasm::{Func, Instr, ValType, Value};
 use sqlite_items::{Items, at};
 use std::alloc::{AllocError, Global};
 use std::mem;
@@ -59,6 +60,43 @@ fn way_on<'m>(label: layer::Entered<'m>, again: bool) -> &'m [Instr]
     } else {
         behind(label.here)
     }
+}
+
+/// The type of a value.
+fn kind_of(value: Value) -> ValType
+    ensures { result ≡ type_of value }
+{
+    match value {
+        Value::I32(_) => ValType::I32,
+        Value::I64(_) => ValType::I64,
+    }
+}
+
+/// Whether the value at a place from the top on is of the type at that place from the last one on.
+#[tactic(auto, using(hph_pile::proofs::Turned::element_turned))]
+fn fits_at(values: &Pile<Value>, params: &[ValType], k: usize) -> bool
+    requires { k < length params.now }
+    ensures { KindFits values.now (reverse params.now) k result }
+{
+    match values.at(k) {
+        None => false,
+        Some(value) => match at(params, params.len() - 1 - k) {
+            None => false,
+            Some(ty) => kind_of(*value) == *ty,
+        },
+    }
+}
+
+/// Whether so many values on top are of these types, the last one's topmost.
+fn all_fit(values: &Pile<Value>, params: &[ValType]) -> bool
+    ensures { AllFit params.now values.now result }
+{
+    for k in 0..params.len() {
+        if !fits_at(values, params, k) {
+            return false;
+        }
+    }
+    true
 }
 
 impl<'m> Machine<'m> {
@@ -297,6 +335,17 @@ impl<'m> Machine<'m> {
                 self.locals = locals;
                 true
             }
+        }
+    }
+
+    /// Whether there are arguments for parameters of these types.
+    pub fn holds(&self, params: &[ValType]) -> bool
+        ensures { Holds params.now (core self.now).values result }
+    {
+        if self.own < params.len() {
+            false
+        } else {
+            all_fit(&self.values, params)
         }
     }
 
