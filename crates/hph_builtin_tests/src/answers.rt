@@ -1,5 +1,5 @@
 //! What calls give. Each row has a call and what PHP 8.2 dumps of its answer.
-use crate::arguments::Arg::{Bool, Int, Ints, Null, Object, Text, Texts};
+use crate::arguments::Arg::{Bool, Int, Ints, Keys, Null, Object, Text, Texts};
 use crate::arguments::{Arg, values};
 use hph_builtin::call;
 use hph_php::Builtin;
@@ -74,6 +74,7 @@ const NUMBERS: &[Row] = &rows! {
 const ARRAYS: &[Row] = &rows! {
     Count(Ints(&[3, 4])) => "int(2)\n";
     Count(Ints(&[])) => "int(0)\n";
+    Count(Keys(&[Text("08"), Int(8), Text("8"), Bool(true), Null])) => "int(4)\n";
     ArrayKeys(Texts(&["a", "b"])) => "array(2) {\n  [0]=>\n  int(0)\n  [1]=>\n  int(1)\n}\n";
     ArrayValues(Ints(&[5, 6])) => "array(2) {\n  [0]=>\n  int(5)\n  [1]=>\n  int(6)\n}\n";
     InArray(Text("5"), Ints(&[4, 5])) => "bool(true)\n";

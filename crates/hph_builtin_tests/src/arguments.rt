@@ -1,6 +1,6 @@
 //! Arguments of calls, as tables have them.
 use hph_array::{Bytes, OrdMap};
-use hph_value::Value;
+use hph_value::{Value, to_key};
 use std::alloc::{AllocError, Global};
 
 /// An argument of a call.
@@ -13,6 +13,8 @@ pub enum Arg {
     Ints(&'static [i64]),
     /// A list of strings.
     Texts(&'static [&'static str]),
+    /// An array of the numbers of these keys, at the keys.
+    Keys(&'static [Arg]),
     Object,
 }
 
@@ -41,6 +43,27 @@ fn texts(alloc: Global, texts: &[&str]) -> Result<Value, AllocError> {
     Value::array(alloc, list)
 }
 
+// What stands at a key of its own; arrays are no keys.
+fn plain(alloc: Global, arg: &Arg) -> Result<Value, AllocError> {
+    match arg {
+        Arg::Bool(truth) => Ok(Value::Bool(*truth)),
+        Arg::Int(number) => Ok(Value::Int(*number)),
+        Arg::Text(bytes) => text(alloc, bytes),
+        _ => Ok(Value::Null),
+    }
+}
+
+fn keyed(alloc: Global, keys: &[Arg]) -> Result<Value, AllocError> {
+    let mut map = OrdMap::new(alloc);
+    for (index, key) in keys.iter().enumerate() {
+        let Ok(key) = to_key(alloc, &plain(alloc, key)?) else {
+            return Err(AllocError);
+        };
+        map.set(key, Value::Int(index as i64))?;
+    }
+    Value::array(alloc, map)
+}
+
 fn value(alloc: Global, arg: &Arg) -> Result<Value, AllocError> {
     match arg {
         Arg::Null => Ok(Value::Null),
@@ -49,6 +72,7 @@ fn value(alloc: Global, arg: &Arg) -> Result<Value, AllocError> {
         Arg::Text(bytes) => text(alloc, bytes),
         Arg::Ints(numbers) => ints(alloc, numbers),
         Arg::Texts(bytes) => texts(alloc, bytes),
+        Arg::Keys(keys) => keyed(alloc, keys),
         Arg::Object => Ok(Value::Obj(7)),
     }
 }
