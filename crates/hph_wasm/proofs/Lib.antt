@@ -5,6 +5,7 @@ pub mod Leb128Examples
 pub mod CountedForms
 pub mod Forms
 pub mod InstructionRows
+pub mod ShallowRows
 pub mod OneInstruction
 pub mod OneSection
 pub mod OneModule
@@ -19,6 +20,8 @@ pub mod StopModule
 pub mod SectionsInTurn
 pub mod MetFeatures
 pub mod UnsupportedExamples
+pub mod DepthExamples
+pub mod SizeExamples
 pub mod Rows
 pub mod Agreement
 pub mod Choices

@@ -1,20 +1,28 @@
 -- What is left out of a module that is spelled is met.
-use Rattle.std.proofs.Common.{◌≡◌, ◌<◌, ◌≤◌, ◌∙◌, ◌⊎◌, inl, inr, ⊎_elim, ℕ, ◌+◌, List, [], ◌∷◌, ◌++◌, length, refl, sym, ap, subst, arith, append_assoc, zero-add, true, false, Option, Some, None}
+use Rattle.std.proofs.Common.{◌≡◌, ◌<◌, ◌≤◌, ◌∙◌, ◌⊎◌, inl, inr, ⊎_elim, ℕ, zero, suc, ◌+◌, List, [], ◌∷◌, ◌++◌, length, refl, sym, ap, subst, arith, append_assoc, zero-add, true, false, Option, Some, None}
 use Rattle.std.specs.Prelude.{nat_le}
 use Rattle.std.specs.List.{AllByRecursion}
 use Rattle.std.proofs.lemmas.List.{append-nil}
 use Rattle.hph_wasm.specs.Leb128.{Unsigned}
-use Rattle.hph_wasm.specs.Grammar.{Grammar, Byte, ◌⊳◌, Each, Vector, Named, Between, MemoryType, TableType}
-use Rattle.hph_wasm.specs.ModuleGrammar.{ImportedThing, Imported, LocalRun, Locals, Code, RawSection, BeginsWithName, without_custom, Parts, parts_of, FromTypes, SpellsModule}
-use Rattle.hph_wasm.specs.Unsupported.{Stop, Any, Behind, AtNumber, Among, LimitsByte, StopsMemoryType, StopsTableType, StopsImportedThing, StopsImported, total_of, StopsRun, StopsRuns, StopsLocals, StopsCode, most_pages, most_entries, most_locals, IsSmallMemory, IsSmallTable, IsSmallThing, IsSmallImport, AreFew, HasFewLocals, AreSupported, IsSupported, Kind, Types, Imports, Functions, Tables, Memories, Globals, Exports, ElementSegments, Codes, DataSegments, StopsContent, StopsSection, IsUnsupported}
+use Rattle.hph_wasm.specs.Grammar.{Grammar, Byte, ◌⊳◌, Each, Vector, Named, ResultType, Between, MemoryType, TableType, GlobalOf}
+use Rattle.hph_wasm.specs.Codes.{else_code}
+use Rattle.hph_wasm.specs.InstructionGrammar.{Instruction, Instructions, Otherwise, Expression}
+use Rattle.hph_wasm.specs.BlockDepth.{IsShallow, AllShallow, OtherShallow, AreShallow}
+use Rattle.hph_wasm.specs.OneWay.{StopsSequence}
+use Rattle.hph_wasm.specs.ModuleGrammar.{ImportedThing, Imported, GlobalWithValue, Elements, Data, LocalRun, Locals, Code, RawSection, BeginsWithName, without_custom, Parts, parts_of, FromTypes, SpellsModule}
+use Rattle.hph_wasm.specs.Unsupported.{Stop, Any, Read, Either, Behind, InSized, AtNumber, Among, LimitsByte, Opener, Opens, StopsInstruction, StopsExpression, StopsGlobal, StopsOffset, StopsMemoryType, StopsTableType, StopsImportedThing, StopsImported, total_of, StopsRun, StopsRuns, StopsLocals, StopsCode, most_pages, most_entries, most_locals, most_blocks, IsShallowExpression, HasShallowValue, HasShallowEntry, HasShallowPlace, IsSmallCode, IsSmallMemory, IsSmallTable, IsSmallThing, IsSmallImport, AreFew, AreSupported, IsSupported, Kind, Types, Imports, Functions, Tables, Memories, Globals, Exports, ElementSegments, Codes, DataSegments, number_of, StopsContent, StopsSection, IsUnsupported}
 use Rattle.hph_wasm.specs.Reading.{Things, Content, with_things, HaveCode, Follows, ReadSoFar}
 use Rattle.hph_wasm.specs.declared.feature.Feature.{Feature}
-use Rattle.hph_wasm.specs.declared.feature.Feature.TheVariants.{InitialMemorySize, InitialTableSize, LocalCount}
+use Rattle.hph_wasm.specs.declared.feature.Feature.TheVariants.{InitialMemorySize, InitialTableSize, LocalCount, BlockDepth}
 use Rattle.hph_wasm.specs.declared.types.ValType.{ValType}
+use Rattle.hph_wasm.specs.declared.types.BlockType.{BlockType}
+use Rattle.hph_wasm.specs.declared.instr.Instr.{Instr, Block', Loop', If', Row_of-Instr, end_of-Instr, more_of-Instr, Held-Instr-If-2, None', Some'}
 use Rattle.hph_wasm.specs.declared.module.ImportDesc.TheVariants as import_desc
 use Rattle.hph_wasm.specs.declared.module.Module.{Module}
 use Rattle.hph_wasm.proofs.OneModule.{parts_same}
-use Rattle.hph_wasm.proofs.OneStop.{split_front}
+use Rattle.hph_wasm.proofs.InstructionRows.{list_of, Each-list_of}
+use Rattle.hph_wasm.proofs.ShallowRows.{AreShallow-list_of}
+use Rattle.hph_wasm.proofs.OneStop.{take_counted, split_front}
 use Rattle.hph_wasm.proofs.StopSection.{length-locals_of}
 use Rattle.hph_wasm.proofs.SectionsInTurn.{reading_goes_on, reading_stops, may_follow, same_counts}
 
@@ -135,6 +143,221 @@ import_met i front rest p = ⊎_elim (λ (few : IsSmallThing i.desc). inl few)
     (met_behind {S = StopsImportedThing} p.rest rest p.second (i.name, p.second.first, tt) met)))
     (imported_thing_met i.desc p.second.rest rest p.second.second)
 
+-- a stop in a sequence, inside some number of blocks
+abbrev MetInside : ℕ → List ℕ → Type 0
+MetInside room bytes = (blocks : ℕ) × (at : ℕ) × (feature : Feature) × StopsSequence blocks room at feature bytes
+
+abbrev MetAt : ℕ → List ℕ → Type 0
+MetAt room bytes = (blocks : ℕ) × (at : ℕ) × (feature : Feature) × StopsInstruction blocks room at feature bytes
+
+-- what is met in the first instruction of a sequence is met in the sequence
+met_first : (room : ℕ) (bytes : List ℕ) → MetAt room bytes → MetInside room bytes
+met_first room bytes (blocks, at, feature, stop) = (
+  blocks,
+  0 + at,
+  feature,
+  record {
+    front = [];
+    rest = bytes;
+    split = refl;
+    before = ([], refl, tt);
+    place = at;
+    counted = refl;
+    stops = stop;
+  },
+)
+
+-- and what is met behind it
+met_next : (room : ℕ) (i : Instr) (front rest bytes : List ℕ) → Instruction i front → IsShallow i room → bytes ≡ front ++ rest →
+    MetInside room rest → MetInside room bytes
+met_next room i front rest bytes p shallow split (blocks, at, feature, stop) = (
+  blocks,
+  length (front ++ stop.front) + stop.place,
+  feature,
+  record {
+    front = front ++ stop.front;
+    rest = stop.rest;
+    split = split ∙ ap (λ l. front ++ l) stop.split ∙ sym (append_assoc front stop.front stop.rest);
+    before = (
+      i ∷ stop.before.0,
+      record { front = front; rest = stop.front; split = refl; first = p; second = stop.before.1 },
+      (shallow, stop.before.2),
+    );
+    place = stop.place;
+    counted = refl;
+    stops = stop.stops;
+  },
+)
+
+-- what is met behind an opening is met in its instruction
+met_opened : (room : ℕ) (open_front rest bytes : List ℕ) → Opens room open_front → bytes ≡ open_front ++ rest → MetInside room rest →
+    MetAt (suc room) bytes
+met_opened room open_front rest bytes opens split (blocks, at, feature, stop) = (
+  suc blocks,
+  length (open_front ++ stop.front) + stop.place,
+  feature,
+  record {
+    front = open_front ++ stop.front;
+    rest = stop.rest;
+    split = split ∙ ap (λ l. open_front ++ l) stop.split ∙ sym (append_assoc open_front stop.front stop.rest);
+    before = record { front = open_front; rest = stop.front; split = refl; first = opens; second = stop.before };
+    place = stop.place;
+    counted = refl;
+    stops = stop.stops;
+  },
+)
+
+-- where no more may be open, a block is met at its opcode
+met_opener : (front rest bytes : List ℕ) → Opener front → bytes ≡ front ++ rest → MetAt zero bytes
+met_opener front rest bytes opens split =
+    (zero, 0, BlockDepth, inr (record { here = refl; named = refl; front = front; rest = rest; split = split; opens = opens }))
+
+-- the opcode and the type of a block, and what stands behind them
+block_opens : {B : Grammar} (code room : ℕ) (ty : BlockType) (front rest : List ℕ) → Opener (code ∷ []) →
+    (p : (Byte code ⊳ ResultType ty ⊳ B) front) →
+    Opens room (p.front ++ p.second.front) × (front ++ rest ≡ (p.front ++ p.second.front) ++ (p.second.rest ++ rest))
+block_opens code room ty front rest opens p = (
+  inl (record {
+    front = p.front;
+    rest = p.second.front;
+    split = refl;
+    first = subst Opener (sym p.first) opens;
+    second = (ty, p.second.first, tt);
+  }),
+  split_front front rest p ∙ ap (λ l. p.front ++ l) (split_front p.rest rest p.second) ∙
+      sym (append_assoc p.front p.second.front (p.second.rest ++ rest)),
+)
+
+-- the opener of a block
+opener_met : {B : Grammar} (code : ℕ) (front rest : List ℕ) → Opener (code ∷ []) → (Byte code ⊳ B) front → MetAt zero (front ++ rest)
+opener_met code front rest opens p =
+    met_opener p.front (p.rest ++ rest) (front ++ rest) (subst Opener (sym p.first) opens) (split_front front rest p)
+
+-- a stop behind the `else` at the head of bytes
+record MetElse (room : ℕ) (front rest : List ℕ) : Type 0 where
+  pub code : List ℕ
+  pub behind : List ℕ
+  pub split : front ++ rest ≡ code ++ behind
+  pub is : Byte else_code code
+  pub met : MetInside room behind
+
+-- it is met in its `if`, whose first branch is shallow
+met_in_else : {n : _} (room : ℕ) (ty : BlockType) (row : Row_of-Instr n) (front rest code result inside other : List ℕ) → Byte 0x04 code →
+    ResultType ty result → Instructions row inside → AllShallow row room → front ++ rest ≡ code ++ (result ++ (inside ++ (other ++ rest))) →
+    MetElse room other rest → MetAt (suc room) (front ++ rest)
+met_in_else room ty row front rest code result inside other is typed spelled shallow split second =
+    met_opened room (code ++ (result ++ (inside ++ second.code))) second.behind (front ++ rest)
+    (inr (record {
+      front = code;
+      rest = result ++ (inside ++ second.code);
+      split = refl;
+      first = is;
+      second = record {
+        front = result;
+        rest = inside ++ second.code;
+        split = refl;
+        first = (ty, typed, tt);
+        second = record {
+          front = inside;
+          rest = second.code;
+          split = refl;
+          first = (list_of row, Each-list_of row inside spelled, AreShallow-list_of row room shallow);
+          second = second.is;
+        };
+      };
+    }))
+    (split ∙ ap (λ l. code ++ (result ++ (inside ++ l))) second.split ∙
+    sym (append_assoc code (result ++ (inside ++ second.code)) second.behind ∙ ap (λ l. code ++ l)
+    (append_assoc result (inside ++ second.code) second.behind ∙ ap (λ l. result ++ l) (append_assoc inside second.code second.behind))))
+    second.met
+
+mutual
+  -- an instruction is shallow, or something is met in it
+  instruction_met : (i : Instr) (room : ℕ) (front rest : List ℕ) → Instruction i front → IsShallow i room ⊎ MetAt room (front ++ rest)
+  instruction_met (Block' ty shape body) zero front rest p = inr (opener_met 0x02 front rest (inl refl) p)
+  instruction_met (Block' ty shape body) (suc room) front rest p =
+      let opened = block_opens 0x02 room ty front rest (inl refl) p in
+      let inside = p.second.second in
+      ⊎_elim (λ (shallow : AllShallow body room). inl shallow)
+      (λ (met : MetInside room (inside.front ++ (inside.rest ++ rest))).
+      inr (met_opened room (p.front ++ p.second.front) (p.second.rest ++ rest) (front ++ rest) opened.0 opened.1
+      (subst (MetInside room) (sym (split_front p.second.rest rest inside)) met)))
+      (row_met body room inside.front (inside.rest ++ rest) inside.first)
+  instruction_met (Loop' ty shape body) zero front rest p = inr (opener_met 0x03 front rest (inr (inl refl)) p)
+  instruction_met (Loop' ty shape body) (suc room) front rest p =
+      let opened = block_opens 0x03 room ty front rest (inr (inl refl)) p in
+      let inside = p.second.second in
+      ⊎_elim (λ (shallow : AllShallow body room). inl shallow)
+      (λ (met : MetInside room (inside.front ++ (inside.rest ++ rest))).
+      inr (met_opened room (p.front ++ p.second.front) (p.second.rest ++ rest) (front ++ rest) opened.0 opened.1
+      (subst (MetInside room) (sym (split_front p.second.rest rest inside)) met)))
+      (row_met body room inside.front (inside.rest ++ rest) inside.first)
+  instruction_met (If' ty shape body other) zero front rest p = inr (opener_met 0x04 front rest (inr (inr refl)) p)
+  instruction_met (If' ty shape body other) (suc room) front rest p =
+      let opened = block_opens 0x04 room ty front rest (inr (inr refl)) p in
+      let inside = p.second.second in
+      ⊎_elim (λ (shallow : AllShallow body room). ⊎_elim
+      (λ (second : OtherShallow other room). inl (shallow, second))
+      (λ (met : MetElse room inside.rest rest). inr (met_in_else room ty body front rest p.front p.second.front inside.front inside.rest
+      p.first p.second.first inside.first shallow
+      (split_front front rest p ∙ ap (λ l. p.front ++ l) (split_front p.rest rest p.second ∙ ap (λ l. p.second.front ++ l)
+      (split_front p.second.rest rest inside))) met))
+      (other_met other room inside.rest rest inside.second))
+      (λ (met : MetInside room (inside.front ++ (inside.rest ++ rest))).
+      inr (met_opened room (p.front ++ p.second.front) (p.second.rest ++ rest) (front ++ rest) opened.0 opened.1
+      (subst (MetInside room) (sym (split_front p.second.rest rest inside)) met)))
+      (row_met body room inside.front (inside.rest ++ rest) inside.first)
+  instruction_met i room front rest p = inl tt
+
+  -- and so are those of a row
+  row_met : {n : _} (row : Row_of-Instr n) (room : ℕ) (front rest : List ℕ) → Instructions row front →
+      AllShallow row room ⊎ MetInside room (front ++ rest)
+  row_met end_of-Instr room front rest p = inl tt
+  row_met (more_of-Instr i row) room front rest p = ⊎_elim
+      (λ (first : IsShallow i room). ⊎_elim
+      (λ (more : AllShallow row room). inl (first, more))
+      (λ (met : MetInside room (p.rest ++ rest)). inr (met_next room i p.front (p.rest ++ rest) (front ++ rest) p.first first
+      (split_front front rest p) met))
+      (row_met row room p.rest rest p.second))
+      (λ (met : MetAt room (p.front ++ (p.rest ++ rest))). inr (met_first room (front ++ rest)
+      (subst (MetAt room) (sym (split_front front rest p)) met)))
+      (instruction_met i room p.front (p.rest ++ rest) p.first)
+
+  -- and those of a second branch
+  other_met : (other : Held-Instr-If-2) (room : ℕ) (front rest : List ℕ) → Otherwise other front →
+      OtherShallow other room ⊎ MetElse room front rest
+  other_met None' room front rest p = inl tt
+  other_met (Some' shape row) room front rest p = let inside = p.second in ⊎_elim
+      (λ (shallow : AllShallow row room). inl shallow)
+      (λ (met : MetInside room (inside.front ++ (inside.rest ++ rest))). inr (record {
+        code = p.front;
+        behind = inside.front ++ (inside.rest ++ rest);
+        split = split_front front rest p ∙ ap (λ l. p.front ++ l) (split_front p.rest rest inside);
+        is = p.first;
+        met = met;
+      }))
+      (row_met row room inside.front (inside.rest ++ rest) inside.first)
+
+-- an expression
+body_met : (body : List Instr) (room : ℕ) (front rest : List ℕ) → Each Instruction body front →
+    AreShallow room body ⊎ MetInside room (front ++ rest)
+body_met [] room front rest p = inl tt
+body_met (i ∷ body) room front rest p = ⊎_elim
+    (λ (first : IsShallow i room). ⊎_elim
+    (λ (more : AreShallow room body). inl (first, more))
+    (λ (met : MetInside room (p.rest ++ rest)). inr (met_next room i p.front (p.rest ++ rest) (front ++ rest) p.first first
+    (split_front front rest p) met))
+    (body_met body room p.rest rest p.second))
+    (λ (met : MetAt room (p.front ++ (p.rest ++ rest))). inr (met_first room (front ++ rest)
+    (subst (MetAt room) (sym (split_front front rest p)) met)))
+    (instruction_met i room p.front (p.rest ++ rest) p.first)
+
+expression_met : FitsOrMet Expression IsShallowExpression StopsExpression
+expression_met body front rest p = ⊎_elim (λ (shallow : IsShallowExpression body). inl shallow)
+    (λ (met : MetInside most_blocks (p.front ++ (p.rest ++ rest))).
+    inr (met.1, met.2, (met.0, subst (StopsSequence met.0 most_blocks met.1 met.2) (sym (split_front front rest p)) met.3)))
+    (body_met body most_blocks p.front (p.rest ++ rest) p.first)
+
 -- runs of locals, behind so many
 record RunsMet (before count : ℕ) (bytes : List ℕ) : Type 0 where
   pub done : List (ℕ × ValType)
@@ -236,26 +459,68 @@ locals_met locals front rest p =
     ))
     (runs_met 0 p.runs all.rest rest (omega arith) all.second)
 
+-- an index, and an expression behind it
+offset_met : {P : Grammar} (n : ℕ) (body : List Instr) (front rest : List ℕ) → (Unsigned 32 n ⊳ Expression body ⊳ P) front →
+    IsShallowExpression body ⊎ Met StopsOffset (front ++ rest)
+offset_met n body front rest p = ⊎_elim (λ (shallow : IsShallowExpression body). inl shallow)
+    (λ (met : Met StopsExpression (p.second.front ++ (p.second.rest ++ rest))).
+    inr (met_behind {B = Any (Unsigned 32)} {S = StopsExpression} front rest p (n, p.first, tt)
+    (subst (Met StopsExpression) (sym (split_front p.rest rest p.second)) met)))
+    (expression_met body p.second.front (p.second.rest ++ rest) p.second.first)
+
+-- a global, and segments
+global_met : FitsOrMet GlobalWithValue HasShallowValue StopsGlobal
+global_met g front rest p = ⊎_elim (λ (shallow : IsShallowExpression g.init). inl shallow)
+    (λ (met : Met StopsExpression (p.rest ++ rest)).
+    let m = met_behind {B = Any GlobalOf} {S = StopsExpression} front rest p (g.ty, p.first, tt) met in
+    inr (m.0, m.1, inr m.2))
+    (expression_met g.init p.rest rest p.second)
+
+element_met : FitsOrMet Elements HasShallowEntry StopsOffset
+element_met e front rest p = offset_met e.table e.offset front rest p
+
+data_met : FitsOrMet Data HasShallowPlace StopsOffset
+data_met s front rest p = offset_met s.memory s.offset front rest p
+
+-- what is met in bytes is met behind their size
+sized_met : (S : Stop) (size body rest bytes : List ℕ) → bytes ≡ size ++ (body ++ rest) → Unsigned 32 (length body) size → Met S body →
+    Met (InSized S) bytes
+sized_met S size body rest bytes split counted met = (
+  length size + met.0,
+  met.1,
+  (
+    length body,
+    record {
+      front = size;
+      rest = body ++ rest;
+      split = split;
+      before = counted;
+      place = met.0;
+      counted = refl;
+      stops = subst (S met.0 met.1) (sym (take_counted body rest)) met.2;
+    },
+  ),
+)
+
 -- code
-code_met : FitsOrMet Code HasFewLocals StopsCode
-code_met code front rest p = ⊎_elim (λ (few : AreFew code.0). inl few)
-    (λ (met : Met StopsLocals (p.inside.front ++ (p.inside.rest ++ rest))).
-    let here : p.body ++ rest ≡ p.inside.front ++ (p.inside.rest ++ rest) = split_front p.body rest p.inside in
-    inr (
-      length p.size + met.0,
-      met.1,
-      record {
-        front = p.size;
-        rest = p.body ++ rest;
-        split = ap (λ l. l ++ rest) p.split ∙ append_assoc p.size p.body rest;
-        before = (length p.body, p.counted, tt);
-        place = met.0;
-        counted = refl;
-        stops =
-            inl (subst (StopsLocals met.0 met.1) (sym here) met.2);
-      },
-    ))
-    (locals_met code.0 p.inside.front (p.inside.rest ++ rest) p.inside.first)
+inside_met : (code : List ValType × List Instr) (body : List ℕ) → (Locals code.0 ⊳ Expression code.1) body →
+    IsSmallCode code ⊎ Met (Either StopsLocals (Behind (Read Locals AreFew) StopsExpression)) body
+inside_met code body p = ⊎_elim
+    (λ (few : AreFew code.0). ⊎_elim (λ (shallow : IsShallowExpression code.1). inl (few, shallow))
+    (λ (met : Met StopsExpression (p.rest ++ [])).
+    let m = met_behind {B = Read Locals AreFew} {S = StopsExpression} body [] p (code.0, p.first, few) met in
+    inr (m.0, m.1, inr (subst (Behind (Read Locals AreFew) StopsExpression m.0 m.1) (append-nil body) m.2)))
+    (expression_met code.1 p.rest [] p.second))
+    (λ (met : Met StopsLocals (p.front ++ p.rest)).
+    inr (met.0, met.1, inl (subst (StopsLocals met.0 met.1) (sym p.split) met.2)))
+    (locals_met code.0 p.front p.rest p.first)
+
+code_met : FitsOrMet Code IsSmallCode StopsCode
+code_met code front rest p = ⊎_elim (λ (small : IsSmallCode code). inl small)
+    (λ (met : Met (Either StopsLocals (Behind (Read Locals AreFew) StopsExpression)) p.body).
+    inr (sized_met (Either StopsLocals (Behind (Read Locals AreFew) StopsExpression)) p.size p.body rest (front ++ rest)
+    (ap (λ l. l ++ rest) p.split ∙ append_assoc p.size p.body rest) p.counted met))
+    (inside_met code p.body p.inside)
 
 -- things in a row: each is read, or one of them isn't
 each_met : {X : Type 0} {P : X → Grammar} {Fits : X → Type 0} {S : Stop} → FitsOrMet P Fits S → (xs : List X) (f rest : List ℕ) →
@@ -324,40 +589,45 @@ content_met : (kind : Kind) (xs : Things kind) (p : Parts) (front rest : List �
     AreSupported p →
     AreSupported (with_things kind xs p) ⊎ Met (StopsContent p kind) (front ++ rest)
 content_met Types xs p front rest content code few =
-    inl (record { imports = few.imports; tables = few.tables; memories = few.memories; codes = few.codes })
+    inl (record { imports = few.imports; tables = few.tables; memories = few.memories; globals = few.globals; elements = few.elements; codes = few.codes; segments = few.segments })
 content_met Imports xs p front rest content code few = ⊎_elim
-    (λ (all : AllByRecursion IsSmallImport xs). inl
-    (record { imports = all; tables = few.tables; memories = few.memories; codes = few.codes }))
+    (λ (all : AllByRecursion IsSmallImport xs). inl (record { imports = all; tables = few.tables; memories = few.memories; globals = few.globals; elements = few.elements; codes = few.codes; segments = few.segments }))
     (λ (met : Met (Behind (Unsigned 32 (length xs)) (Among (length xs) Imported IsSmallImport StopsImported)) (front ++ rest)). inr
     (met.0, met.1, (length xs, met.2)))
     (vector_met import_met xs (length xs) front rest refl content)
 content_met Functions xs p front rest content code few =
-    inl (record { imports = few.imports; tables = few.tables; memories = few.memories; codes = few.codes })
+    inl (record { imports = few.imports; tables = few.tables; memories = few.memories; globals = few.globals; elements = few.elements; codes = few.codes; segments = few.segments })
 content_met Tables xs p front rest content code few = ⊎_elim
-    (λ (all : AllByRecursion IsSmallTable xs). inl
-    (record { imports = few.imports; tables = all; memories = few.memories; codes = few.codes }))
+    (λ (all : AllByRecursion IsSmallTable xs). inl (record { imports = few.imports; tables = all; memories = few.memories; globals = few.globals; elements = few.elements; codes = few.codes; segments = few.segments }))
     (λ (met : Met (Behind (Unsigned 32 (length xs)) (Among (length xs) TableType IsSmallTable StopsTableType)) (front ++ rest)). inr
     (met.0, met.1, (length xs, met.2)))
     (vector_met table_type_met xs (length xs) front rest refl content)
 content_met Memories xs p front rest content code few = ⊎_elim
-    (λ (all : AllByRecursion IsSmallMemory xs). inl
-    (record { imports = few.imports; tables = few.tables; memories = all; codes = few.codes }))
+    (λ (all : AllByRecursion IsSmallMemory xs). inl (record { imports = few.imports; tables = few.tables; memories = all; globals = few.globals; elements = few.elements; codes = few.codes; segments = few.segments }))
     (λ (met : Met (Behind (Unsigned 32 (length xs)) (Among (length xs) MemoryType IsSmallMemory StopsMemoryType)) (front ++ rest)). inr
     (met.0, met.1, (length xs, met.2)))
     (vector_met memory_type_met xs (length xs) front rest refl content)
-content_met Globals xs p front rest content code few =
-    inl (record { imports = few.imports; tables = few.tables; memories = few.memories; codes = few.codes })
+content_met Globals xs p front rest content code few = ⊎_elim
+    (λ (all : AllByRecursion HasShallowValue xs). inl (record { imports = few.imports; tables = few.tables; memories = few.memories; globals = all; elements = few.elements; codes = few.codes; segments = few.segments }))
+    (λ (met : Met (Behind (Unsigned 32 (length xs)) (Among (length xs) GlobalWithValue HasShallowValue StopsGlobal)) (front ++ rest)). inr
+    (met.0, met.1, (length xs, met.2)))
+    (vector_met global_met xs (length xs) front rest refl content)
 content_met Exports xs p front rest content code few =
-    inl (record { imports = few.imports; tables = few.tables; memories = few.memories; codes = few.codes })
-content_met ElementSegments xs p front rest content code few =
-    inl (record { imports = few.imports; tables = few.tables; memories = few.memories; codes = few.codes })
+    inl (record { imports = few.imports; tables = few.tables; memories = few.memories; globals = few.globals; elements = few.elements; codes = few.codes; segments = few.segments })
+content_met ElementSegments xs p front rest content code few = ⊎_elim
+    (λ (all : AllByRecursion HasShallowEntry xs). inl (record { imports = few.imports; tables = few.tables; memories = few.memories; globals = few.globals; elements = all; codes = few.codes; segments = few.segments }))
+    (λ (met : Met (Behind (Unsigned 32 (length xs)) (Among (length xs) Elements HasShallowEntry StopsOffset)) (front ++ rest)). inr
+    (met.0, met.1, (length xs, met.2)))
+    (vector_met element_met xs (length xs) front rest refl content)
 content_met Codes xs p front rest content code few = ⊎_elim
-    (λ (all : AllByRecursion HasFewLocals xs). inl
-    (record { imports = few.imports; tables = few.tables; memories = few.memories; codes = all }))
+    (λ (all : AllByRecursion IsSmallCode xs). inl (record { imports = few.imports; tables = few.tables; memories = few.memories; globals = few.globals; elements = few.elements; codes = all; segments = few.segments }))
     (λ (met : Met (StopsContent p Codes) (front ++ rest)). inr met)
     (vector_met code_met xs (length p.functions) front rest code content)
-content_met DataSegments xs p front rest content code few =
-    inl (record { imports = few.imports; tables = few.tables; memories = few.memories; codes = few.codes })
+content_met DataSegments xs p front rest content code few = ⊎_elim
+    (λ (all : AllByRecursion HasShallowPlace xs). inl (record { imports = few.imports; tables = few.tables; memories = few.memories; globals = few.globals; elements = few.elements; codes = few.codes; segments = all }))
+    (λ (met : Met (Behind (Unsigned 32 (length xs)) (Among (length xs) Data HasShallowPlace StopsOffset)) (front ++ rest)). inr
+    (met.0, met.1, (code, (length xs, met.2))))
+    (vector_met data_met xs (length xs) front rest refl content)
 
 -- the parts with a section that follows are read, or something is met in it
 section_met : (p q : Parts) (before : List (ℕ × List ℕ)) (y : ℕ × List ℕ) (front rest : List ℕ) → RawSection y front →
@@ -366,37 +636,16 @@ section_met : (p q : Parts) (before : List (ℕ × List ℕ)) (y : ℕ × List �
 section_met p q before y front rest raw (inl (is, named, same)) few = inl (subst AreSupported (sym same) few)
 section_met p q before y front rest raw (inr (kind, is, below, xs, content, code, same)) few = ⊎_elim
     (λ (all : AreSupported (with_things kind xs p)). inl (subst AreSupported (sym same) all))
-    (λ (met : Met (StopsContent p kind) (y.1 ++ rest)).
+    (λ (met : Met (StopsContent p kind) (y.1 ++ [])).
     let sized = raw.second in
-    let content_at : sized.rest ++ rest ≡ y.1 ++ rest = ap (λ l. l ++ rest) sized.second in
-    let head : List ℕ = raw.front ++ sized.front in
-    inr (
-      length head + met.0,
-      met.1,
-      inl (
-        kind,
-        below,
-        record {
-          front = head;
-          rest = y.1 ++ rest;
-          split = split_front front rest raw ∙ ap (λ l. raw.front ++ l)
-              (split_front raw.rest rest sized ∙ ap (λ l. sized.front ++ l) content_at)
-              ∙ sym (append_assoc raw.front sized.front (y.1 ++ rest));
-          before = record {
-            front = raw.front;
-            rest = sized.front;
-            split = refl;
-            first = raw.first ∙ ap (λ n. n ∷ []) is;
-            second =
-                (length y.1, sized.first, tt);
-          };
-          place = met.0;
-          counted = refl;
-          stops = met.2;
-        },
-      ),
-    ))
-    (content_met kind xs p y.1 rest content code few)
+    let split : raw.rest ++ rest ≡ sized.front ++ (y.1 ++ rest) =
+    split_front raw.rest rest sized ∙ ap (λ l. sized.front ++ (l ++ rest)) sized.second in
+    let here = sized_met (StopsContent p kind) sized.front y.1 rest (raw.rest ++ rest) split sized.first
+    (subst (Met (StopsContent p kind)) (append-nil y.1) met) in
+    let m = met_behind {B = Byte (number_of kind)} {S = InSized (StopsContent p kind)} front rest raw
+    (raw.first ∙ ap (λ n. n ∷ []) is) here in
+    inr (m.0, m.1, inl (kind, below, m.2)))
+    (content_met kind xs p y.1 [] content code few)
 
 -- no parts
 abbrev nothing_yet : Parts
@@ -453,5 +702,5 @@ module _ (bytes : List ℕ) (m : Module) (x : SpellsModule bytes m) where
     stand = record { front = x.front; rest = []; split = sym (append-nil x.front); first = x.first; second = refl };
     named = tt;
     inside = (refl, (refl, (refl, (refl, (refl, (refl, (refl, (refl, (refl, (refl, refl))))))))));
-    supported = record { imports = tt; tables = tt; memories = tt; codes = tt };
+    supported = record { imports = tt; tables = tt; memories = tt; globals = tt; elements = tt; codes = tt; segments = tt };
   })

@@ -1,11 +1,12 @@
 -- Bytes stop a reader in at most one place, and not in what is read.
 use Rattle.std.proofs.Common.{◌≡◌, ◌<◌, ◌∙◌, inl, inr, ℕ, ◌+◌, List, [], ◌∷◌, ◌++◌, length, refl, sym, ap, subst, arith, append_assoc, length-append}
 use Rattle.std.specs.List.{AllByRecursion}
-use Rattle.std.specs.Prelude.{Option, Some}
+use Rattle.std.specs.Prelude.{Option, Some, take}
+use Rattle.std.proofs.lemmas.List.{append-nil, take_all, take-append-le}
 use Rattle.hph_wasm.specs.Leb128.{Unsigned}
 use Rattle.hph_wasm.specs.Grammar.{Grammar, Byte, ◌⊳◌, Each, Vector, Sized}
 pub use Rattle.hph_wasm.specs.OneWay.{Same, OneStop}
-use Rattle.hph_wasm.specs.Unsupported.{Stop, Read, Any, Either, Behind, AtByte, AtNumber, Among, InVector}
+use Rattle.hph_wasm.specs.Unsupported.{Stop, Read, Either, Behind, AtByte, AtNumber, Among, InVector, InSized}
 use Rattle.hph_wasm.specs.declared.feature.Feature.{Feature}
 use Rattle.hph_wasm.proofs.OneForm.{OneForm, exactly_form}
 use Rattle.hph_wasm.proofs.Leb128Laws.{unsigned_form}
@@ -261,18 +262,38 @@ module _ {X : Type 0} {P : X → Grammar} {Fits : X → Type 0} {S : Stop} (form
         (subst (Among stop.0 P Fits S b.place feature) a.behind b.stops);
   }
 
+-- so many bytes of these and of those behind them are these
+pub take_counted : (front rest : List ℕ) → take (length front) (front ++ rest) ≡ front
+take_counted front rest = take-append-le (length front) front rest (omega arith) ∙ take_all (length front) front (omega arith)
+
+-- what stops behind its size is one
+pub sized_one : (S : Stop) (at at' : ℕ) (feature feature' : Feature) (bytes : List ℕ) →
+    ((place place' : ℕ) (rest : List ℕ) → S place feature rest → S place' feature' rest → Same place place' feature feature') →
+    InSized S at feature bytes → InSized S at' feature' bytes → Same at at' feature feature'
+sized_one S at at' feature feature' bytes one (size, p) (size', q) =
+    let a = (unsigned_form 32).alike size size' p.front q.front p.rest q.rest p.before q.before (sym p.split ∙ q.split) in
+    let inside : take size p.rest ≡ take size' q.rest = (λ i. take (a.thing i) (a.behind i)) in
+    let same = one p.place q.place (take size' q.rest) (subst (S p.place feature) inside p.stops) q.stops in
+    record { place = p.counted ∙ (λ i. length (a.spelling i) + same.place i) ∙ sym q.counted; named = same.named }
+
+-- and it isn't met where these bytes are counted, if it isn't in them
+pub sized_apart : (S : Stop) (at : ℕ) (feature : Feature) (bytes size body rest : List ℕ) → bytes ≡ size ++ (body ++ rest) →
+    Unsigned 32 (length body) size → ((place : ℕ) → S place feature body → ⊥) → InSized S at feature bytes → ⊥
+sized_apart S at feature bytes size body rest split counted none (number, q) =
+    let a = (unsigned_form 32).alike (length body) number size q.front (body ++ rest) q.rest counted q.before (sym split ∙ q.split) in
+    let inside : take number q.rest ≡ body = (λ i. take (sym a.thing i) (sym a.behind i)) ∙ take_counted body rest in
+    none q.place (subst (S q.place feature) inside q.stops)
+
 -- a thing behind its size
 pub sized_stops : {X : Type 0} {P : X → Grammar} {Fits : X → Type 0} {S : Stop} → OneStop P Fits S →
-    OneStop (λ x. Sized (P x)) Fits (Behind (Any (Unsigned 32)) S)
+    OneStop (λ x. Sized (P x)) Fits (InSized S)
 sized_stops {S = S} o = record {
-  one = λ at at' feature feature' bytes p q. behind_one {S = S} (read_fronts (λ _. Unit {0}) (fronts_of (unsigned_form 32))) tt tt at at'
-      feature feature' bytes
+  one = λ at at' feature feature' bytes p q. sized_one S at at' feature feature' bytes
       (λ place place' rest. o.one place place' feature feature' rest) p q;
-  apart = λ x at feature front rest p fits stop. behind_apart {S = S} (read_fronts (λ _. Unit {0}) (fronts_of (unsigned_form 32))) tt tt
-      at feature p.size (p.body ++ rest)
-      (length p.body, p.counted, tt)
-      (λ place. o.apart x place feature p.body rest p.inside fits)
-      (subst (Behind (Any (Unsigned 32)) S at feature) (ap (λ l. l ++ rest) p.split ∙ append_assoc p.size p.body rest) stop);
+  apart = λ x at feature front rest p fits stop. sized_apart S at feature (front ++ rest) p.size p.body rest
+      (ap (λ l. l ++ rest) p.split ∙ append_assoc p.size p.body rest) p.counted
+      (λ place here. o.apart x place feature p.body [] p.inside fits (subst (S place feature) (sym (append-nil p.body)) here))
+      stop;
 }
 
 -- a byte has one front

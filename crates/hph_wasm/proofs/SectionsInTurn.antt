@@ -1,6 +1,6 @@
 -- Reading goes on section by section, and where it can't the bytes are malformed.
 use Rattle.std.proofs.Common.{◌≡◌, ◌<◌, ◌∙◌, ◌⊎◌, inl, inr, ⊎_elim, ℕ, ◌+◌, List, [], ◌∷◌, ◌++◌, length, refl, sym, ap, subst, arith, append_assoc, true, false}
-use Rattle.std.specs.Prelude.{nat_eq, MatchBool, if◌then◌else◌}
+use Rattle.std.specs.Prelude.{nat_eq, take, MatchBool, if◌then◌else◌}
 use Rattle.std.specs.List.{AllByRecursion}
 use Rattle.std.proofs.lemmas.List.{append-nil, length-map}
 use Rattle.hph_wasm.specs.Leb128.{Unsigned}
@@ -492,9 +492,13 @@ counts_where_stopped : (p : Parts) (sections : List (ℕ × List ℕ)) (y : ℕ 
     Member y sections → 9 < y.0 →
     StopsSection p sections at feature bytes → length p.codes ≡ length p.functions
 counts_where_stopped p sections y at feature bytes m more (inl (kind, below, stop)) =
-    by_kind kind (member_below (number_of kind) y sections below m) stop.stops
+    by_kind kind (member_below (number_of kind) y sections below m) stop.stops.1.stops
   where
-    by_kind : (kind : Kind) → y.0 < number_of kind → StopsContent p kind stop.place feature stop.rest → length p.codes ≡ length p.functions
+    inside : List ℕ
+    inside = take stop.stops.0 stop.stops.1.rest
+
+    by_kind : (kind : Kind) → y.0 < number_of kind → StopsContent p kind stop.stops.1.place feature inside →
+        length p.codes ≡ length p.functions
     by_kind DataSegments less x = x.0
     by_kind Types less x = absurd (omega arith)
     by_kind Imports less x = absurd (omega arith)

@@ -2,10 +2,9 @@
 use Rattle.std.proofs.Common.{◌≡◌, ◌<◌, ◌∙◌, ◌⊎◌, inl, inr, ℕ, List, [], ◌∷◌, ◌++◌, length, refl, sym, ap, subst, arith, length-append, true, false, Some, None}
 use Rattle.std.specs.Prelude.{nat_eq, if◌then◌else◌}
 use Rattle.std.proofs.lemmas.List.{append-nil}
-use Rattle.hph_wasm.specs.Leb128.{Unsigned}
 use Rattle.hph_wasm.specs.Grammar.{Exactly, Byte, ◌⊳◌, Each}
 use Rattle.hph_wasm.specs.ModuleGrammar.{Code, RawSection, without_custom, Parts, parts_of, FromTypes, header, SpellsModule}
-use Rattle.hph_wasm.specs.Unsupported.{IsAnything, Stop, Any, Behind, AtByte, Among, HasFewLocals, AreSupported, IsSupported, Kind, Types, Imports, Functions, Tables, Memories, Globals, Exports, ElementSegments, Codes, DataSegments, number_of, StopsCode, StopsContent, start_section, StopsSection, IsUnsupported}
+use Rattle.hph_wasm.specs.Unsupported.{Stop, Behind, InSized, AtByte, Among, IsSmallCode, AreSupported, IsSupported, Kind, Types, Imports, Functions, Tables, Memories, Globals, Exports, ElementSegments, Codes, DataSegments, number_of, StopsCode, StopsContent, start_section, StopsSection, IsUnsupported}
 use Rattle.hph_wasm.specs.declared.feature.Feature.{Feature}
 use Rattle.hph_wasm.specs.declared.feature.Feature.TheVariants.{Start}
 use Rattle.hph_wasm.specs.declared.module.Module.{Module}
@@ -13,7 +12,7 @@ use Rattle.hph_wasm.proofs.OneForm.{append-cancel, byte_form}
 use Rattle.hph_wasm.proofs.Leb128Laws.{unsigned_form}
 use Rattle.hph_wasm.proofs.OneSection.{function_type_form, table_type_form, memory_type_form, import_form, global_form, element_form, code_form, data_form}
 use Rattle.hph_wasm.proofs.OneModule.{raw_section_form, parts_same}
-use Rattle.hph_wasm.proofs.OneStop.{Same, Fronts, fronts_of, read_fronts, pair_fronts, behind_one, behinds_one, byte_fronts, byte_one, among_one, vector_stops, split_front}
+use Rattle.hph_wasm.proofs.OneStop.{Same, fronts_of, behind_one, byte_fronts, byte_one, among_one, vector_stops, sized_one, sized_apart, split_front}
 use Rattle.hph_wasm.proofs.StopParts.{all_asked, function_type_stops, import_stops, table_type_stops, memory_type_stops, byte_apart}
 use Rattle.hph_wasm.proofs.StopSection.{global_stops, element_stops, code_stops, data_stops}
 use Rattle.hph_wasm.proofs.Members.{Member, After, Content, content_of, no_start}
@@ -29,7 +28,7 @@ content_one p Memories = (vector_stops memory_type_form memory_type_stops).one
 content_one p Globals = (vector_stops global_form global_stops).one
 content_one p Exports = λ at at' feature feature' bytes x y. absurd x
 content_one p ElementSegments = (vector_stops element_form element_stops).one
-content_one p Codes = λ at at' feature feature' bytes. behind_one {S = Among (length p.functions) Code HasFewLocals StopsCode}
+content_one p Codes = λ at at' feature feature' bytes. behind_one {S = Among (length p.functions) Code IsSmallCode StopsCode}
     (fronts_of (unsigned_form 32)) (length p.functions) (length p.functions) at at' feature feature' bytes
     (λ place place' rest. among_one code_form code_stops (length p.functions) (length p.functions) place place' feature feature' rest)
 content_one p DataSegments = λ at at' feature feature' bytes x y. (vector_stops data_form data_stops).one at at' feature feature' bytes
@@ -48,41 +47,36 @@ content_apart p q Tables at feature front rest content few stop =
 content_apart p q Memories at feature front rest content few stop =
     (vector_stops memory_type_form memory_type_stops).apart q.memories at feature front rest content few.memories stop
 content_apart p q Globals at feature front rest content few stop =
-    (vector_stops global_form global_stops).apart q.globals at feature front rest content (all_asked q.globals) stop
+    (vector_stops global_form global_stops).apart q.globals at feature front rest content few.globals stop
 content_apart p q Exports at feature front rest content few stop = stop
 content_apart p q ElementSegments at feature front rest content few stop =
-    (vector_stops element_form element_stops).apart q.elements at feature front rest content (all_asked q.elements) stop
+    (vector_stops element_form element_stops).apart q.elements at feature front rest content few.elements stop
 content_apart p q Codes at feature front rest content few stop =
     (vector_stops code_form code_stops).apart q.codes at feature front rest content few.codes (length p.functions, stop)
 content_apart p q DataSegments at feature front rest content few stop =
-    (vector_stops data_form data_stops).apart q.segments at feature front rest content (all_asked q.segments) stop.1
-
--- a section's number and its size have one front
-head_fronts : (kind : Kind) → Fronts {X = Unit {0} × Unit {0}} (λ _. Byte (number_of kind) ⊳ Any (Unsigned 32))
-head_fronts kind = pair_fronts (byte_fronts (number_of kind)) (read_fronts IsAnything (fronts_of (unsigned_form 32)))
+    (vector_stops data_form data_stops).apart q.segments at feature front rest content few.segments stop.1
 
 -- a section that is read begins with its number, and a size
 section_apart : (p q : Parts) (kind : Kind) (y : ℕ × List ℕ) (at : ℕ) (feature : Feature) (front rest : List ℕ) → RawSection y front →
     y.0 ≡ number_of kind → Content q kind y.1 → AreSupported q →
-    Behind (Byte (number_of kind) ⊳ Any (Unsigned 32)) (StopsContent p kind) at feature (front ++ rest) → ⊥
+    Behind (Byte (number_of kind)) (InSized (StopsContent p kind)) at feature (front ++ rest) → ⊥
 section_apart p q kind y at feature front rest raw is content few stop =
-    let head = stop.before in
-    let a = byte_form.alike y.0 (number_of kind) raw.front head.front (raw.rest ++ rest) (head.rest ++ stop.rest) raw.first head.first
-    (sym (split_front front rest raw) ∙ stop.split ∙ split_front stop.front stop.rest head) in
+    let a = byte_form.alike y.0 (number_of kind) raw.front stop.front (raw.rest ++ rest) stop.rest raw.first stop.before
+    (sym (split_front front rest raw) ∙ stop.split) in
     let inside = raw.second in
-    let b = (unsigned_form 32).alike (length y.1) head.second.0 inside.front head.rest (inside.rest ++ rest) stop.rest inside.first
-    head.second.1
-    (sym (split_front raw.rest rest inside) ∙ a.behind) in
-    content_apart p q kind stop.place feature y.1 rest content few
-    (subst (StopsContent p kind stop.place feature) (sym b.behind ∙ ap (λ l. l ++ rest) inside.second) stop.stops)
+    let body : inside.rest ++ rest ≡ y.1 ++ rest = ap (λ l. l ++ rest) inside.second in
+    sized_apart (StopsContent p kind) stop.place feature stop.rest inside.front y.1 rest
+    (sym a.behind ∙ split_front raw.rest rest inside ∙ ap (λ l. inside.front ++ l) body) inside.first
+    (λ place here. content_apart p q kind place feature y.1 [] content few
+    (subst (StopsContent p kind place feature) (sym (append-nil y.1)) here))
+    stop.stops
 
 -- the number that a section's first byte is
 section_number : (kind : Kind) {S : Stop} (y : ℕ × List ℕ) (at : ℕ) (feature : Feature) (front rest : List ℕ) → RawSection y front →
-    Behind (Byte (number_of kind) ⊳ Any (Unsigned 32)) S at feature (front ++ rest) → y.0 ≡ number_of kind
+    Behind (Byte (number_of kind)) S at feature (front ++ rest) → y.0 ≡ number_of kind
 section_number kind y at feature front rest raw stop =
-    let head = stop.before in
-    (byte_form.alike y.0 (number_of kind) raw.front head.front (raw.rest ++ rest) (head.rest ++ stop.rest) raw.first head.first
-    (sym (split_front front rest raw) ∙ stop.split ∙ split_front stop.front stop.rest head)).thing
+    (byte_form.alike y.0 (number_of kind) raw.front stop.front (raw.rest ++ rest) stop.rest raw.first stop.before
+    (sym (split_front front rest raw) ∙ stop.split)).thing
 
 -- the first byte of a start section is 8
 start_number : (y : ℕ × List ℕ) (at : ℕ) (feature : Feature) (front rest : List ℕ) → RawSection y front →
@@ -209,8 +203,8 @@ pub no_longer : (p q : Parts) (before xs ys : List (ℕ × List ℕ)) (at : ℕ)
     StopsSection p before at feature bytes →
     FromTypes q (without_custom ys) → AreSupported q → ⊥
 no_longer p q before xs ys at feature bytes more (inl (kind, below, stop)) inside few =
-    let here = subst (Behind (Byte (number_of kind) ⊳ Any (Unsigned 32)) (StopsContent p kind) at feature) more.split stop in
-    let is = section_number kind {S = StopsContent p kind} more.next at feature more.front more.rest more.raw here in
+    let here = subst (Behind (Byte (number_of kind)) (InSized (StopsContent p kind)) at feature) more.split stop in
+    let is = section_number kind {S = InSized (StopsContent p kind)} more.next at feature more.front more.rest more.raw here in
     let content = content_of q kind more.next (after q xs ys bytes more (number_of kind) is (number-above_zero kind) inside) is in
     section_apart p q kind more.next at feature more.front more.rest more.raw is content few here
 no_longer p q before xs ys at feature bytes more (inr (below, stop)) inside few =
@@ -255,28 +249,28 @@ not_start DataSegments = refl
 
 -- bytes that begin with a kind's number aren't a start section
 start_apart : (kind : Kind) {S : Stop} (at at' : ℕ) (feature feature' : Feature) (bytes : List ℕ) →
-    Behind (Byte (number_of kind) ⊳ Any (Unsigned 32)) S at feature bytes →
+    Behind (Byte (number_of kind)) S at feature bytes →
     AtByte start_section at' feature' bytes → ⊥
 start_apart kind at at' feature feature' bytes p q =
-    byte_apart start_section (number_of kind) at' feature' p.before.front (p.before.rest ++ p.rest) (not_start kind) p.before.first
-    (subst (AtByte start_section at' feature') (p.split ∙ split_front p.front p.rest p.before) q)
+    byte_apart start_section (number_of kind) at' feature' p.front p.rest (not_start kind) p.before
+    (subst (AtByte start_section at' feature') p.split q)
 
 -- what stops in a section is one, behind the same parts
 section_one : (p : Parts) (before before' : List (ℕ × List ℕ)) (at at' : ℕ) (feature feature' : Feature) (bytes : List ℕ) →
     StopsSection p before at feature bytes →
     StopsSection p before' at' feature' bytes → Same at at' feature feature'
 section_one p before before' at at' feature feature' bytes (inl (kind, below, x)) (inl (kind', below', y)) =
-    let same = (byte_form.alike (number_of kind) (number_of kind') x.before.front y.before.front (x.before.rest ++ x.rest)
-    (y.before.rest ++ y.rest) x.before.first y.before.first
-    (sym (split_front x.front x.rest x.before) ∙ sym x.split ∙ y.split ∙ split_front y.front y.rest y.before)).thing in
-    let x' = subst (λ kind. Behind (Byte (number_of kind) ⊳ Any (Unsigned 32)) (StopsContent p kind) at feature bytes)
+    let same = (byte_form.alike (number_of kind) (number_of kind') x.front y.front x.rest y.rest x.before y.before
+    (sym x.split ∙ y.split)).thing in
+    let x' = subst (λ kind. Behind (Byte (number_of kind)) (InSized (StopsContent p kind)) at feature bytes)
     (same_kind kind kind' same) x in
-    behinds_one {S = StopsContent p kind'} {T = StopsContent p kind'} (head_fronts kind') (tt, tt) at at' feature feature' bytes
-    (λ place place' feature feature' rest. content_one p kind' place place' feature feature' rest) x' y
+    behind_one {S = InSized (StopsContent p kind')} (byte_fronts (number_of kind')) tt tt at at' feature feature' bytes
+    (λ place place' rest. sized_one (StopsContent p kind') place place' feature feature' rest
+    (λ place place' rest. content_one p kind' place place' feature feature' rest)) x' y
 section_one p before before' at at' feature feature' bytes (inl (kind, below, x)) (inr (below', y)) =
-    absurd (start_apart kind {S = StopsContent p kind} at at' feature feature' bytes x y)
+    absurd (start_apart kind {S = InSized (StopsContent p kind)} at at' feature feature' bytes x y)
 section_one p before before' at at' feature feature' bytes (inr (below, x)) (inl (kind, below', y)) =
-    absurd (start_apart kind {S = StopsContent p kind} at' at feature' feature bytes y x)
+    absurd (start_apart kind {S = InSized (StopsContent p kind)} at' at feature' feature bytes y x)
 section_one p before before' at at' feature feature' bytes (inr (below, x)) (inr (below', y)) =
     byte_one start_section at at' feature feature' bytes x y
 
@@ -335,9 +329,7 @@ one_unsupported bytes at at' feature feature' x y =
 pub no_stop_at_end : (p : Parts) (before : List (ℕ × List ℕ)) (at : ℕ) (feature : Feature) (bytes : List ℕ) → bytes ≡ [] →
     StopsSection p before at feature bytes → ⊥
 no_stop_at_end p before at feature bytes e (inl (kind, below, stop)) =
-    let flat : number_of kind ∷ (stop.before.rest ++ stop.rest) ≡ [] =
-    ap (λ l. l ++ (stop.before.rest ++ stop.rest)) (sym stop.before.first) ∙ sym (split_front stop.front stop.rest stop.before) ∙
-    sym stop.split ∙ e in cc
+    let flat : number_of kind ∷ stop.rest ≡ [] = ap (λ l. l ++ stop.rest) (sym stop.before) ∙ sym stop.split ∙ e in cc
 no_stop_at_end p before at feature bytes e (inr (below, stop)) = let here : ⊥ = subst (AtByte start_section at feature) e stop in here
 
 -- no section stands at the end

@@ -6,7 +6,7 @@ use Rattle.hph_wasm.specs.Leb128.{Unsigned}
 use Rattle.hph_wasm.specs.Grammar.{Grammar, ◌⊳◌, Each, Vector, Bytes}
 use Rattle.hph_wasm.specs.InstructionGrammar.{Expression}
 use Rattle.hph_wasm.specs.ModuleGrammar.{GlobalWithValue, Elements, LocalRun, locals_of, Locals, Code, Data}
-use Rattle.hph_wasm.specs.Unsupported.{IsAnything, most_locals, HasFewLocals, StopsGlobal, StopsOffset, total_of, StopsRun, StopsLocals, StopsCode}
+use Rattle.hph_wasm.specs.Unsupported.{IsAnything, most_locals, IsShallowExpression, HasShallowValue, HasShallowEntry, HasShallowPlace, IsSmallCode, StopsGlobal, StopsOffset, total_of, StopsRun, StopsLocals, StopsCode}
 use Rattle.hph_wasm.specs.declared.feature.Feature.{Feature}
 use Rattle.hph_wasm.specs.declared.feature.Feature.TheVariants.{LocalCount}
 use Rattle.hph_wasm.specs.declared.types.ValType.{ValType}
@@ -18,23 +18,24 @@ use Rattle.hph_wasm.proofs.StopParts.{value_type_stops, global_type_stops}
 use Rattle.hph_wasm.proofs.StopInstruction.{expression_stops}
 
 -- a global
-pub global_stops : OneStop GlobalWithValue IsAnything StopsGlobal
-global_stops = narrow_stops {Fits = λ g. Unit {0} × Unit {0}} (λ g _. (tt, tt))
+pub global_stops : OneStop GlobalWithValue HasShallowValue StopsGlobal
+global_stops = narrow_stops {Fits = λ g. Unit {0} × IsShallowExpression g.init} (λ g shallow. (tt, shallow))
     (along_stops (λ g. (g.ty, g.init)) (either_stops {First = IsAnything} global_type_form global_type_stops expression_stops))
 
 -- an index, and an expression before other things
 offset_stops : {X : Type 0} (P : X → Grammar) →
-    OneStop {X = ℕ × (List Instr × X)} (λ parts. Unsigned 32 parts.0 ⊳ Expression parts.1.0 ⊳ P parts.1.1) IsAnything StopsOffset
-offset_stops P = narrow_stops {Fits = λ parts. Unit {0} × Unit {0}} (λ parts _. (tt, tt))
+    OneStop {X = ℕ × (List Instr × X)} (λ parts. Unsigned 32 parts.0 ⊳ Expression parts.1.0 ⊳ P parts.1.1)
+    (λ parts. IsShallowExpression parts.1.0) StopsOffset
+offset_stops P = narrow_stops {Fits = λ parts. Unit {0} × IsShallowExpression parts.1.0} (λ parts shallow. (tt, shallow))
     (second_stops {Q = λ more. Expression more.0 ⊳ P more.1} IsAnything (unsigned_form 32) (first_stops P expression_stops))
 
 -- an element segment
-pub element_stops : OneStop Elements IsAnything StopsOffset
-element_stops = along_stops {Fits = IsAnything} (λ e. (e.table, (e.offset, e.funcs))) (offset_stops (Vector (Unsigned 32)))
+pub element_stops : OneStop Elements HasShallowEntry StopsOffset
+element_stops = along_stops {Fits = λ parts. IsShallowExpression parts.1.0} (λ e. (e.table, (e.offset, e.funcs))) (offset_stops (Vector (Unsigned 32)))
 
 -- a data segment
-pub data_stops : OneStop Data IsAnything StopsOffset
-data_stops = along_stops {Fits = IsAnything} (λ s. (s.memory, (s.offset, s.bytes))) (offset_stops Bytes)
+pub data_stops : OneStop Data HasShallowPlace StopsOffset
+data_stops = along_stops {Fits = λ parts. IsShallowExpression parts.1.0} (λ s. (s.memory, (s.offset, s.bytes))) (offset_stops Bytes)
 
 -- a run of locals behind so many: it is read where they aren't too many with it
 run_stops : (total : ℕ) → OneStop LocalRun (λ run. total + run.0 ≤ most_locals) (StopsRun total)
@@ -139,7 +140,5 @@ locals_stops = record {
 }
 
 -- code
-pub code_stops : OneStop Code HasFewLocals StopsCode
-code_stops = sized_stops (narrow_stops {Fits = λ (code : List ValType × List Instr). (length code.0 ≤ most_locals) × Unit {0}}
-    (λ code few. (few, tt))
-    (either_stops {First = λ locals. length locals ≤ most_locals} locals_form locals_stops expression_stops))
+pub code_stops : OneStop Code IsSmallCode StopsCode
+code_stops = sized_stops (either_stops {First = λ locals. length locals ≤ most_locals} locals_form locals_stops expression_stops)

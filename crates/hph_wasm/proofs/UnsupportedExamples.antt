@@ -26,14 +26,15 @@ nothing_yet = record {
   segments = [];
 }
 
--- a type section with a parameter of f32, whatever its size says
-float_parameter : (size : ℕ) → size < 2 ^ 7 → IsUnsupported (header ++ 0x01 ∷ size ∷ 0x01 ∷ 0x60 ∷ 0x01 ∷ 0x7D ∷ 0x00 ∷ []) 13 F32
-float_parameter size small = record {
+-- a type section with a parameter of f32 within its size, also where fewer bytes are left than the size counts
+float_parameter : (more : ℕ) → suc (suc (suc (suc more))) < 2 ^ 7 →
+    IsUnsupported (header ++ 0x01 ∷ suc (suc (suc (suc more))) ∷ 0x01 ∷ 0x60 ∷ 0x01 ∷ 0x7D ∷ []) 13 F32
+float_parameter more small = record {
   p = nothing_yet;
   sections = [];
   named = tt;
   inside = (refl, (refl, (refl, (refl, (refl, (refl, (refl, (refl, (refl, (refl, refl))))))))));
-  supported = record { imports = tt; tables = tt; memories = tt; codes = tt };
+  supported = record { imports = tt; tables = tt; memories = tt; globals = tt; elements = tt; codes = tt; segments = tt };
   stops = record {
     front = header;
     rest = _;
@@ -45,71 +46,82 @@ float_parameter size small = record {
       Types,
       tt,
       record {
-        front = 0x01 ∷ size ∷ [];
+        front = 0x01 ∷ [];
         rest = _;
         split = refl;
-        before = then (0x01 ∷ []) (size ∷ []) refl (size, one_byte size small, tt);
-        place = 3;
+        before = refl;
+        place = 4;
         counted = refl;
         stops = (
-          1,
+          suc (suc (suc (suc more))),
           record {
-            front = 0x01 ∷ [];
-            rest = _;
+            front = suc (suc (suc (suc more))) ∷ [];
+            rest = 0x01 ∷ 0x60 ∷ 0x01 ∷ 0x7D ∷ [];
             split = refl;
-            before = one_byte 1 (omega arith);
-            place = 2;
+            before = one_byte (suc (suc (suc (suc more)))) small;
+            place = 3;
             counted = refl;
-            stops = record {
-              done = [];
-              fewer = omega arith;
-              fit = tt;
-              stops =
-                  record {
-                    front = [];
-                    rest = _;
-                    split = refl;
-                    before = refl;
-                    place = 2;
-                    counted = refl;
-                    stops =
-                        record {
-                          front = 0x60 ∷ [];
-                          rest = _;
-                          split = refl;
-                          before = refl;
-                          place = 1;
-                          counted = refl;
-                          stops = inl (
-                            1,
+            stops = (
+              1,
+              record {
+                front = 0x01 ∷ [];
+                rest = _;
+                split = refl;
+                before = one_byte 1 (omega arith);
+                place = 2;
+                counted = refl;
+                stops = record {
+                  done = [];
+                  fewer = omega arith;
+                  fit = tt;
+                  stops =
+                      record {
+                        front = [];
+                        rest = _;
+                        split = refl;
+                        before = refl;
+                        place = 2;
+                        counted = refl;
+                        stops =
                             record {
-                              front = 0x01 ∷ [];
+                              front = 0x60 ∷ [];
                               rest = _;
                               split = refl;
-                              before = one_byte 1 (omega arith);
-                              place = 0;
+                              before = refl;
+                              place = 1;
                               counted = refl;
-                              stops = record {
-                                done = [];
-                                fewer = omega arith;
-                                fit = tt;
-                                stops =
-                                    record {
-                                      front = [];
-                                      rest = _;
-                                      split = refl;
-                                      before = refl;
-                                      place = 0;
-                                      counted = refl;
-                                      stops =
-                                          (refl, refl);
-                                    };
-                              };
-                            },
-                          );
-                        };
-                  };
-            };
+                              stops = inl (
+                                1,
+                                record {
+                                  front = 0x01 ∷ [];
+                                  rest = _;
+                                  split = refl;
+                                  before = one_byte 1 (omega arith);
+                                  place = 0;
+                                  counted = refl;
+                                  stops = record {
+                                    done = [];
+                                    fewer = omega arith;
+                                    fit = tt;
+                                    stops =
+                                        record {
+                                          front = [];
+                                          rest = _;
+                                          split = refl;
+                                          before = refl;
+                                          place = 0;
+                                          counted = refl;
+                                          stops =
+                                              (refl, refl);
+                                        };
+                                  };
+                                },
+                              );
+                            };
+                      };
+                };
+              },
+            );
           },
         );
       },
@@ -124,7 +136,7 @@ start_section = record {
   sections = [];
   named = tt;
   inside = (refl, (refl, (refl, (refl, (refl, (refl, (refl, (refl, (refl, (refl, refl))))))))));
-  supported = record { imports = tt; tables = tt; memories = tt; codes = tt };
+  supported = record { imports = tt; tables = tt; memories = tt; globals = tt; elements = tt; codes = tt; segments = tt };
   stops = record {
     front = header;
     rest = _;
@@ -176,7 +188,7 @@ float_addition = (
     front = 0x01 ∷ [];
     rest = 0x92 ∷ 0x0B ∷ [];
     split = refl;
-    before = (Nop ∷ [], then (0x01 ∷ []) [] refl refl, tt);
+    before = (Nop ∷ [], then (0x01 ∷ []) [] refl refl, (tt, tt));
     place = 0;
     counted = refl;
     stops = inl (refl, refl);
@@ -201,7 +213,7 @@ grow_in_else = (
           split = refl;
           before = then (0x04 ∷ 0x40 ∷ 0x01 ∷ 0x05 ∷ []) []
               (inr (then (0x04 ∷ []) _ refl (then (0x40 ∷ []) _ (record { result = None }, refl, tt)
-              (then (0x01 ∷ []) (0x05 ∷ []) (Nop ∷ [], then (0x01 ∷ []) [] refl refl, tt) refl))))
+              (then (0x01 ∷ []) (0x05 ∷ []) (Nop ∷ [], then (0x01 ∷ []) [] refl refl, (tt, tt)) refl))))
               ([], refl, tt);
           place = 0;
           counted = refl;
@@ -295,7 +307,7 @@ function_alone = reading_lacks_code _ (record nothing_yet { functions = 0 ∷ []
       ),
     ),
   );
-  supported = record { imports = tt; tables = tt; memories = tt; codes = tt };
+  supported = record { imports = tt; tables = tt; memories = tt; globals = tt; elements = tt; codes = tt; segments = tt };
 }) (λ e. omega arith)
 
 -- whether an opcode is in the table, and whether it is left out

@@ -6,6 +6,7 @@ pub mod InstructionGrammar
 pub mod ModuleGrammar
 pub mod LocalRuns
 pub mod Spelling
+pub mod BlockDepth
 pub mod Unsupported
 pub mod OneWay
 pub mod Reading

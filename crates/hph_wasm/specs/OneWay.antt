@@ -3,7 +3,8 @@ use Rattle.std.specs.Prelude.{◌≡◌, ◌⊎◌, ℕ, List, ◌∷◌, ◌++�
 use Rattle.hph_wasm.specs.Grammar.{Each}
 use Rattle.hph_wasm.specs.Codes.{else_code, end_code}
 use Rattle.hph_wasm.specs.InstructionGrammar.{Instruction}
-use Rattle.hph_wasm.specs.Unsupported.{Behind, Any, StopsInstruction}
+use Rattle.hph_wasm.specs.BlockDepth.{IsShallow, AreShallow}
+use Rattle.hph_wasm.specs.Unsupported.{Behind, ShallowRow, StopsInstruction}
 use Rattle.hph_wasm.specs.declared.feature.Feature.{Feature}
 use Rattle.hph_wasm.specs.declared.instr.Instr.{Instr}
 
@@ -41,18 +42,24 @@ abbrev pub SequencesAreAlike : Type 0
 SequencesAreAlike = (xs ys : List Instr) (f g r s : List ℕ) → Each Instruction xs f → Each Instruction ys g → Closes r → Closes s → f ++
     r ≡ g ++ s → Alike xs ys f g r s
 
--- a sequence, and a stop behind it inside so many blocks
-abbrev pub StopsSequence : ℕ → ℕ → Feature → List ℕ → Type 0
-StopsSequence blocks = Behind (Any (Each Instruction)) (StopsInstruction blocks)
+-- a sequence, and a stop behind it inside so many blocks, where so many may be open around it
+abbrev pub StopsSequence : ℕ → ℕ → ℕ → Feature → List ℕ → Type 0
+StopsSequence blocks room = Behind (ShallowRow room) (StopsInstruction blocks room)
 
 -- A stop in a sequence is met in at most one place, whatever the numbers of blocks.
 abbrev pub SequencesStopOnce : Type 0
-SequencesStopOnce = (blocks blocks' at at' : ℕ) (feature feature' : Feature) (bytes : List ℕ) → StopsSequence blocks at feature bytes →
-    StopsSequence blocks' at' feature' bytes →
+SequencesStopOnce = (blocks blocks' room at at' : ℕ) (feature feature' : Feature) (bytes : List ℕ) →
+    StopsSequence blocks room at feature bytes → StopsSequence blocks' room at' feature' bytes →
     Same at at' feature feature'
 
 -- And it isn't met where a sequence is read and something closes behind it.
 abbrev pub ClosedSequencesDontStop : Type 0
-ClosedSequencesDontStop = (blocks : ℕ) (xs : List Instr) (at : ℕ) (feature : Feature) (front rest : List ℕ) → Each Instruction xs front →
-    Closes rest →
-    StopsSequence blocks at feature (front ++ rest) → ⊥
+ClosedSequencesDontStop = (blocks room : ℕ) (xs : List Instr) (at : ℕ) (feature : Feature) (front rest : List ℕ) →
+    Each Instruction xs front → AreShallow room xs → Closes rest →
+    StopsSequence blocks room at feature (front ++ rest) → ⊥
+
+-- It isn't met in an instruction that is read, whatever stands behind that.
+abbrev pub ShallowInstructionsDontStop : Type 0
+ShallowInstructionsDontStop = (blocks room : ℕ) (i : Instr) (at : ℕ) (feature : Feature) (front rest : List ℕ) → Instruction i front →
+    IsShallow i room →
+    StopsInstruction blocks room at feature (front ++ rest) → ⊥

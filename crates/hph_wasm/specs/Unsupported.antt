@@ -1,21 +1,26 @@
 -- What of the binary format is left out, and where it is met: the Core Specification 1.0, 5, less the features of `Feature`.
 -- Bytes are read item by item from the front. Every item before the offset is in the grammar and is read, and at the offset begins what is
--- left out. What a size or a count counts is compared with it only where that ends.
-use Rattle.std.specs.Prelude.{◌≡◌, ◌<◌, ◌≤◌, ◌⊎◌, ◌&&◌, ℕ, zero, suc, ◌+◌, List, [], ◌∷◌, ◌++◌, length, Option, Some, None, nat_eq, nat_le, if◌then◌else◌}
+-- left out. An item stands within the size that counts it: one that reaches past the end of that is none, and nothing behind the end is met.
+-- Where fewer bytes are left than a size counts, these are read; a size and a count are compared with what they count where that ends.
+use Rattle.std.specs.Prelude.{◌≡◌, ◌<◌, ◌≤◌, ◌⊎◌, ◌&&◌, ℕ, zero, suc, ◌+◌, List, [], ◌∷◌, ◌++◌, length, take, Option, Some, None, nat_eq, nat_le, if◌then◌else◌}
 use Rattle.std.specs.List.{AllByRecursion}
 use Rattle.hph_wasm.specs.Leb128.{Unsigned}
 use Rattle.hph_wasm.specs.Grammar.{Grammar, Exactly, Byte, ◌⊳◌, Each, Vector, Named, ValueType, ResultType, FunctionType, MemoryType, TableType, GlobalOf}
 use Rattle.hph_wasm.specs.Codes.{else_code}
 use Rattle.hph_wasm.specs.InstructionGrammar.{Instruction}
+use Rattle.hph_wasm.specs.BlockDepth.{AreShallow}
 use Rattle.hph_wasm.specs.ModuleGrammar.{Imported, GlobalWithValue, Elements, LocalRun, Locals, Code, Data, RawSection, BeginsWithName, without_custom, Parts, parts_of, FromTypes, header, SpellsModule}
 use Rattle.hph_wasm.specs.declared.feature.Feature.{Feature}
-use Rattle.hph_wasm.specs.declared.feature.Feature.TheVariants.{F32, F64, MemorySize, MemoryGrow, Start, InitialMemorySize, InitialTableSize, LocalCount}
+use Rattle.hph_wasm.specs.declared.feature.Feature.TheVariants.{F32, F64, MemorySize, MemoryGrow, Start, InitialMemorySize, InitialTableSize, LocalCount, BlockDepth}
 use Rattle.hph_wasm.specs.declared.types.ValType.{ValType}
 use Rattle.hph_wasm.specs.declared.types.Limits.{Limits}
 use Rattle.hph_wasm.specs.declared.instr.Instr.{Instr}
 use Rattle.hph_wasm.specs.declared.module.ImportDesc.{ImportDesc}
 use Rattle.hph_wasm.specs.declared.module.ImportDesc.TheVariants as import_desc
 use Rattle.hph_wasm.specs.declared.module.Import.{Import}
+use Rattle.hph_wasm.specs.declared.module.Global.{Global}
+use Rattle.hph_wasm.specs.declared.module.Element.{Element}
+use Rattle.hph_wasm.specs.declared.module.Segment.{Segment}
 use Rattle.hph_wasm.specs.declared.module.Module.{Module}
 
 -- ---- the greatest counts
@@ -28,6 +33,10 @@ most_entries = 1048576
 
 abbrev pub most_locals : ℕ
 most_locals = 1048576
+
+-- the most blocks, loops and ifs that are open at once in an expression
+abbrev pub most_blocks : ℕ
+most_blocks = 4096
 
 -- an initial memory, an initial table, and what is imported, that are read
 abbrev pub IsSmallMemory : Limits → Type 0
@@ -45,12 +54,26 @@ IsSmallThing (import_desc.Global ty) = Unit {0}
 abbrev pub IsSmallImport : Import → Type 0
 IsSmallImport i = IsSmallThing i.desc
 
--- locals that are no more than are read, and code with such
+-- locals that are no more than are read
 abbrev pub AreFew : List ValType → Type 0
 AreFew locals = length locals ≤ most_locals
 
-abbrev pub HasFewLocals : List ValType × List Instr → Type 0
-HasFewLocals code = AreFew code.0
+-- an expression whose blocks are nested no deeper than is read
+abbrev pub IsShallowExpression : List Instr → Type 0
+IsShallowExpression body = AreShallow most_blocks body
+
+-- a global, segments and code with such
+abbrev pub HasShallowValue : Global → Type 0
+HasShallowValue g = IsShallowExpression g.init
+
+abbrev pub HasShallowEntry : Element → Type 0
+HasShallowEntry e = IsShallowExpression e.offset
+
+abbrev pub HasShallowPlace : Segment → Type 0
+HasShallowPlace s = IsShallowExpression s.offset
+
+abbrev pub IsSmallCode : List ValType × List Instr → Type 0
+IsSmallCode code = AreFew code.0 × IsShallowExpression code.1
 
 -- what is always read
 abbrev pub IsAnything : {X : Type 0} → X → Type 0
@@ -61,7 +84,10 @@ pub record AreSupported (p : Parts) : Type 0 where
   pub imports : AllByRecursion IsSmallImport p.imports
   pub tables : AllByRecursion IsSmallTable p.tables
   pub memories : AllByRecursion IsSmallMemory p.memories
-  pub codes : AllByRecursion HasFewLocals p.codes
+  pub globals : AllByRecursion HasShallowValue p.globals
+  pub elements : AllByRecursion HasShallowEntry p.elements
+  pub codes : AllByRecursion IsSmallCode p.codes
+  pub segments : AllByRecursion HasShallowPlace p.segments
 
 -- a module that is read
 abbrev pub IsSupported : Module → Type 0
@@ -126,6 +152,14 @@ pub record Among {X : Type 0} (count : ℕ) (P : X → List ℕ → Type 0) (Fit
 -- in a vector (5.1.3)
 abbrev pub InVector : {X : Type 0} → (X → Grammar) → (X → Type 0) → Stop → Stop
 InVector P Fits S at feature bytes = (count : ℕ) × Behind (Unsigned 32 count) (Among count P Fits S) at feature bytes
+
+-- in so many bytes, or in all where they are fewer
+abbrev pub Within : ℕ → Stop → Stop
+Within size S at feature bytes = S at feature (take size bytes)
+
+-- in what stands behind its size
+abbrev pub InSized : Stop → Stop
+InSized S at feature bytes = (size : ℕ) × Behind (Unsigned 32 size) (Within size S) at feature bytes
 
 -- ---- types (5.3)
 
@@ -196,21 +230,40 @@ left_out code = feature_in left_out_rows code
 abbrev pub Opener : Grammar
 Opener bytes = Byte 0x02 bytes ⊎ (Byte 0x03 bytes ⊎ Byte 0x04 bytes)
 
--- what stands before the instructions of a block, or of the second branch of an `if` (5.4.1)
-abbrev pub OpensElse : Grammar
-OpensElse = Byte 0x04 ⊳ Any ResultType ⊳ Any (Each Instruction) ⊳ Byte else_code
+-- at the opcode of a block, a loop or an `if`, where no more of them may be open
+pub record AtOpener (at : ℕ) (feature : Feature) (bytes : List ℕ) : Type 0 where
+  pub here : at ≡ 0
+  pub named : feature ≡ BlockDepth
+  pub front : List ℕ
+  pub rest : List ℕ
+  pub split : bytes ≡ front ++ rest
+  pub opens : Opener front
 
-abbrev pub Opens : Grammar
-Opens bytes = (Opener ⊳ Any ResultType) bytes ⊎ OpensElse bytes
+-- instructions that are read where so many more blocks may be open
+abbrev pub ShallowRow : ℕ → Grammar
+ShallowRow room = Read (Each Instruction) (AreShallow room)
 
--- an instruction inside so many blocks: its opcode, or the type of its block
-abbrev pub StopsInstruction : ℕ → Stop
-StopsInstruction zero = Either (AtByte left_out) (Behind Opener StopsValueType)
-StopsInstruction (suc blocks) = Behind (Opens ⊳ Any (Each Instruction)) (StopsInstruction blocks)
+-- what stands before the instructions of a block, or of the second branch of an `if`, inside which so many more blocks may be open (5.4.1)
+abbrev pub OpensElse : ℕ → Grammar
+OpensElse room = Byte 0x04 ⊳ Any ResultType ⊳ ShallowRow room ⊳ Byte else_code
+
+abbrev pub Opens : ℕ → Grammar
+Opens room bytes = (Opener ⊳ Any ResultType) bytes ⊎ OpensElse room bytes
+
+-- a block where so many more may be open: its opcode, if that is none, or else its type
+abbrev pub StopsBlock : ℕ → Stop
+StopsBlock zero = AtOpener
+StopsBlock (suc room) = Behind Opener StopsValueType
+
+-- an instruction inside so many blocks, where so many may be open around it: its opcode, or its block
+abbrev pub StopsInstruction : ℕ → ℕ → Stop
+StopsInstruction zero room = Either (AtByte left_out) (StopsBlock room)
+StopsInstruction (suc blocks) zero = Nowhere
+StopsInstruction (suc blocks) (suc room) = Behind (Opens room ⊳ ShallowRow room) (StopsInstruction blocks room)
 
 -- a sequence of instructions, and so an expression (5.4.6)
 abbrev pub StopsExpression : Stop
-StopsExpression at feature bytes = (blocks : ℕ) × Behind (Any (Each Instruction)) (StopsInstruction blocks) at feature bytes
+StopsExpression at feature bytes = (blocks : ℕ) × Behind (ShallowRow most_blocks) (StopsInstruction blocks most_blocks) at feature bytes
 
 -- ---- sections (5.5)
 
@@ -252,7 +305,7 @@ StopsLocals at feature bytes = (count : ℕ) × Behind (Unsigned 32 count) (Stop
 
 -- code, behind its size (5.5.13)
 abbrev pub StopsCode : Stop
-StopsCode = Behind (Any (Unsigned 32)) (Either StopsLocals (Behind (Read Locals AreFew) StopsExpression))
+StopsCode = InSized (Either StopsLocals (Behind (Read Locals AreFew) StopsExpression))
 
 -- the sections that aren't custom and are read
 pub data Kind : Type 0 where
@@ -287,11 +340,11 @@ StopsContent p Imports = InVector Imported IsSmallImport StopsImported
 StopsContent p Functions = Nowhere
 StopsContent p Tables = InVector TableType IsSmallTable StopsTableType
 StopsContent p Memories = InVector MemoryType IsSmallMemory StopsMemoryType
-StopsContent p Globals = InVector GlobalWithValue IsAnything StopsGlobal
+StopsContent p Globals = InVector GlobalWithValue HasShallowValue StopsGlobal
 StopsContent p Exports = Nowhere
-StopsContent p ElementSegments = InVector Elements IsAnything StopsOffset
-StopsContent p Codes = Behind (Unsigned 32 (length p.functions)) (Among (length p.functions) Code HasFewLocals StopsCode)
-StopsContent p DataSegments = Where (length p.codes ≡ length p.functions) (InVector Data IsAnything StopsOffset)
+StopsContent p ElementSegments = InVector Elements HasShallowEntry StopsOffset
+StopsContent p Codes = Behind (Unsigned 32 (length p.functions)) (Among (length p.functions) Code IsSmallCode StopsCode)
+StopsContent p DataSegments = Where (length p.codes ≡ length p.functions) (InVector Data HasShallowPlace StopsOffset)
 
 -- the first byte of a start section (5.5.11)
 abbrev pub start_section : ℕ → Option Feature
@@ -304,8 +357,7 @@ AllBelow id sections = AllByRecursion (λ section. section.0 < id) sections
 -- a section that may stand behind these, whose parts were read: its content behind its number and its size, or its number
 abbrev pub StopsSection : Parts → List (ℕ × List ℕ) → Stop
 StopsSection p sections at feature bytes =
-    ((kind : Kind) × AllBelow (number_of kind) sections × Behind (Byte (number_of kind) ⊳ Any (Unsigned 32)) (StopsContent p kind) at
-    feature bytes)
+    ((kind : Kind) × AllBelow (number_of kind) sections × Behind (Byte (number_of kind)) (InSized (StopsContent p kind)) at feature bytes)
     ⊎ (AllBelow 8 sections × AtByte start_section at feature bytes)
 
 -- A feature that is left out is met at this offset: behind the header and whole sections, in the next one (5.5.15).

@@ -13,4 +13,6 @@ pub enum Feature {
     InitialTableSize,
     /// More than 1048576 locals in a function.
     LocalCount,
+    /// More than 4096 blocks, loops and ifs open at once in an expression.
+    BlockDepth,
 }

@@ -5,8 +5,8 @@ ghost use Rattle.hph_wasm.specs.Leb128.{Unsigned, Signed};
 ghost use Rattle.hph_wasm.specs.Grammar.{Bytes, Named, ValueType, ResultType, FunctionType, MemoryType, TableType, GlobalOf};
 ghost use Rattle.hph_wasm.specs.InstructionGrammar.{MemoryArgument, Instruction, Expression};
 ghost use Rattle.hph_wasm.specs.ModuleGrammar.{Imported, GlobalWithValue, Exported, Elements, LocalRun, Locals, Code, Data, RawSection};
-ghost use Rattle.hph_wasm.specs.Unsupported.{IsSmallImport, IsSmallMemory, IsSmallTable, HasFewLocals, AreFew, IsAnything, StopsValueType, StopsFunctionType, StopsMemoryType, StopsTableType, StopsExpression, StopsImported, StopsGlobal, StopsOffset, StopsLocals, StopsCode};
-ghost use Rattle.hph_wasm.specs.OneWay.{OneForm, OneStop, SequencesAreAlike, SequencesStopOnce, ClosedSequencesDontStop};
+ghost use Rattle.hph_wasm.specs.Unsupported.{IsSmallImport, IsSmallMemory, IsSmallTable, IsSmallCode, AreFew, IsAnything, IsShallowExpression, HasShallowValue, HasShallowEntry, HasShallowPlace, StopsValueType, StopsFunctionType, StopsMemoryType, StopsTableType, StopsExpression, StopsImported, StopsGlobal, StopsOffset, StopsLocals, StopsCode};
+ghost use Rattle.hph_wasm.specs.OneWay.{OneForm, OneStop, SequencesAreAlike, SequencesStopOnce, ClosedSequencesDontStop, ShallowInstructionsDontStop};
 
 /// Numbers, names and types can be read in one way: no spelling begins another, and each spells one thing
 /// (Core Specification 1.0, 5.2 and 5.3).
@@ -51,13 +51,14 @@ pub fn parts_stop_in_one_place()
     ensures memory_types { OneStop MemoryType IsSmallMemory StopsMemoryType }
     ensures table_types { OneStop TableType IsSmallTable StopsTableType }
     ensures global_types { OneStop GlobalOf IsAnything StopsValueType }
+    ensures instructions { ShallowInstructionsDontStop }
     ensures sequences { SequencesStopOnce }
     ensures closed_sequences { ClosedSequencesDontStop }
-    ensures expressions { OneStop Expression IsAnything StopsExpression }
+    ensures expressions { OneStop Expression IsShallowExpression StopsExpression }
     ensures imports { OneStop Imported IsSmallImport StopsImported }
-    ensures globals { OneStop GlobalWithValue IsAnything StopsGlobal }
-    ensures elements { OneStop Elements IsAnything StopsOffset }
+    ensures globals { OneStop GlobalWithValue HasShallowValue StopsGlobal }
+    ensures elements { OneStop Elements HasShallowEntry StopsOffset }
     ensures locals { OneStop Locals AreFew StopsLocals }
-    ensures codes { OneStop Code HasFewLocals StopsCode }
-    ensures segments { OneStop Data IsAnything StopsOffset }
+    ensures codes { OneStop Code IsSmallCode StopsCode }
+    ensures segments { OneStop Data HasShallowPlace StopsOffset }
 {}

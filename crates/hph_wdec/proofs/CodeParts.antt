@@ -1,12 +1,13 @@
 -- Reading the code section, part by part (Core Specification 1.0, 5.5.13).
-use Rattle.std.proofs.Common.{◌≡◌, ◌∙◌, inl, inr, ℕ, ◌+◌, List, ◌++◌, length, refl, sym, ap, subst, arith, append_assoc}
+use Rattle.std.proofs.Common.{◌≡◌, ◌∙◌, inl, inr, ℕ, ◌+◌, List, [], ◌++◌, length, refl, sym, ap, subst, arith, append_assoc}
+use Rattle.std.specs.Prelude.{take}
 use Rattle.std.specs.List.{AllByRecursion}
 use Rattle.hph_wasm.specs.Leb128.{Unsigned}
-use Rattle.hph_wasm.specs.Grammar.{Grammar, ◌⊳◌, Each, Vector, Sized}
+use Rattle.hph_wasm.specs.Grammar.{◌⊳◌, Vector, Sized}
 use Rattle.hph_wasm.specs.InstructionGrammar.{Expression}
 use Rattle.hph_wasm.specs.ModuleGrammar.{Locals, Code}
 use Rattle.hph_wasm.specs.OneWay.{OneForm, OneStop}
-use Rattle.hph_wasm.specs.Unsupported.{Stop, Any, Read, Nowhere, Behind, Among, IsAnything, AreFew, HasFewLocals, StopsLocals, StopsExpression, StopsCode}
+use Rattle.hph_wasm.specs.Unsupported.{Any, Read, Nowhere, Among, IsShallowExpression, AreFew, IsSmallCode, StopsLocals, StopsExpression, StopsCode}
 use Rattle.hph_wasm.specs.declared.feature.Feature.{Feature}
 use Rattle.hph_wasm.specs.declared.types.ValType.{ValType}
 use Rattle.hph_wasm.specs.declared.instr.Instr.{Instr}
@@ -15,10 +16,11 @@ use Rattle.hph_wread.specs.declared.fault.Fault.{Fault}
 use Rattle.hph_wread.specs.declared.fault.Fault.TheVariants.{Malformed}
 use Rattle.hph_wread.specs.Reading.{Took, Fails}
 use Rattle.hph_wread.proofs.Combinators.{took_map, took_any, fails_map, fails_first, fails_second, behind_first, behind_second, OneEnd, one_end, pair_end}
-use Rattle.hph_wread.proofs.Vectors.{took_alike, took_apart, took_vector, each_end, vector_apart}
+use Rattle.hph_wread.proofs.Vectors.{took_alike, took_apart, each_end, vector_apart}
 use Rattle.hph_wdec.specs.Locals.{LocalsAndBody, StopsLocalsAndBody}
-use Rattle.hph_wdec.specs.Next.{CodesFor, StopsCodesFor}
-use Rattle.hph_wdec.proofs.SizedParts.{sized_size, sized_inside, sized_unfilled, sized_took, sized_any}
+use Rattle.hph_wdec.specs.Next.{CountedCode, StopsCounted, CodesFor, StopsCodesFor}
+use Rattle.hph_wdec.specs.Sized.{moved_by}
+use Rattle.hph_wdec.proofs.SizedParts.{sized_size, sized_inside, sized_unfilled, sized_any}
 
 -- ---- a function's code
 
@@ -39,13 +41,13 @@ inside_body o stops locals few p e f = fails_map inside_parts (λ place feature 
     (fails_second StopsLocals (one_end o) (λ front q. (q.0, q.1, tt)) (took_apart stops locals p few) (few_locals locals few p) e f)
 
 -- nothing stops in what was read
-inside_apart : {bytes mid rest : List ℕ} → OneForm Locals → OneStop Locals AreFew StopsLocals → OneStop Expression IsAnything StopsExpression →
-    (locals : List ValType) → AreFew locals → Took (Locals locals) bytes mid → (body : List Instr) → Took (Expression body) mid rest →
+inside_apart : {bytes mid rest : List ℕ} → OneForm Locals → OneStop Locals AreFew StopsLocals → OneStop Expression IsShallowExpression StopsExpression →
+    (locals : List ValType) → AreFew locals → Took (Locals locals) bytes mid → (body : List Instr) → IsShallowExpression body → Took (Expression body) mid rest →
     (place : ℕ) (feature : Feature) → ¬ StopsLocalsAndBody place feature bytes
-inside_apart o stops expression locals few p body q place feature (inl t) = took_apart stops locals p few place feature t
-inside_apart o stops expression locals few p body q place feature (inr b) =
+inside_apart o stops expression locals few p body shallow q place feature (inl t) = took_apart stops locals p few place feature t
+inside_apart o stops expression locals few p body shallow q place feature (inr b) =
     let same = took_alike o locals b.before.0 p (record { front = b.front; split = b.split; spelled = b.before.1 }) in
-    took_apart expression body q tt b.place feature (subst (StopsExpression b.place feature) (sym same.behind) b.stops)
+    took_apart expression body q shallow b.place feature (subst (StopsExpression b.place feature) (sym same.behind) b.stops)
 
 inside_end : OneForm Locals → OneForm Expression → OneEnd (Any LocalsAndBody)
 inside_end o expression = record {
@@ -55,32 +57,23 @@ inside_end o expression = record {
 pub code_size : {bytes : List ℕ} (e : Fault) → Fails (Any (Unsigned 32)) Nowhere bytes e → Fails (Any Code) StopsCode bytes e
 code_size e f = sized_any LocalsAndBody e (sized_size (Any LocalsAndBody) StopsLocalsAndBody e f)
 
-pub code_inside : {bytes mid : List ℕ} → OneForm (Unsigned 32) → (size : ℕ) → Took (Unsigned 32 size) bytes mid → (e : Fault) →
-    Fails (Any LocalsAndBody) StopsLocalsAndBody mid e → Fails (Any Code) StopsCode bytes e
-code_inside o size p e f = sized_any LocalsAndBody e (sized_inside o size p e f)
+module _ {bytes behind inside : List ℕ} (rest : List ℕ) (number : OneForm (Unsigned 32)) (size : ℕ) (p : Took (Unsigned 32 size) bytes behind)
+    (counted : inside ≡ take size behind) (whole : behind ≡ inside ++ rest) where
+  pub code_inside : (e : Fault) → Fails (Any LocalsAndBody) StopsLocalsAndBody inside e → Fails (Any Code) StopsCode bytes (moved_by (length rest) e)
+  code_inside e f = sized_any LocalsAndBody (moved_by (length rest) e) (sized_inside rest number size p counted whole (Any LocalsAndBody) StopsLocalsAndBody e f)
 
-pub code_unfilled : {bytes mid rest : List ℕ} → OneForm (Unsigned 32) → OneForm Locals → OneForm Expression → OneStop Locals AreFew StopsLocals →
-    OneStop Expression IsAnything StopsExpression → (size : ℕ) → Took (Unsigned 32 size) bytes mid → (code : List ValType × List Instr) → HasFewLocals code →
-    Took (LocalsAndBody code) mid rest → ¬ (length mid ≡ length rest + size) → Fails (Any Code) StopsCode bytes (Malformed (length rest))
-code_unfilled {rest = rest} number o expression stops stops' size p code few q differs =
-    let c = q.spelled in
-    let first : Took (Locals code.0) _ (c.rest ++ rest) = record { front = c.front; split = q.split ∙ ap (λ l. l ++ rest) c.split ∙ append_assoc c.front c.rest rest; spelled = c.first } in
-    let second : Took (Expression code.1) (c.rest ++ rest) rest = record { front = c.rest; split = refl; spelled = c.second } in
-    sized_any LocalsAndBody (Malformed (length rest))
-    (sized_unfilled StopsLocalsAndBody number (inside_end o expression) (inside_apart o stops stops' code.0 few first code.1 second) size p
-    (took_any LocalsAndBody code q) differs)
-
-pub code_took : {bytes mid rest : List ℕ} (size : ℕ) → Took (Unsigned 32 size) bytes mid → (code : List ValType × List Instr) → Took (LocalsAndBody code) mid rest →
-    length mid ≡ length rest + size → Took (Code code) bytes rest
-code_took size p code q filled = sized_took size p q filled
+  pub code_unfilled : {after : List ℕ} → OneForm Locals → OneForm Expression → OneStop Locals AreFew StopsLocals →
+      OneStop Expression IsShallowExpression StopsExpression → (code : List ValType × List Instr) → IsSmallCode code →
+      Took (LocalsAndBody code) inside after → ¬ ((after ≡ []) × (length inside ≡ size)) → Fails (Any Code) StopsCode bytes (Malformed (length after + length rest))
+  code_unfilled {after} o expression stops stops' code small q differs =
+      let c = q.spelled in
+      let first : Took (Locals code.0) _ (c.rest ++ after) = record { front = c.front; split = q.split ∙ ap (λ l. l ++ after) c.split ∙ append_assoc c.front c.rest after; spelled = c.first } in
+      let second : Took (Expression code.1) (c.rest ++ after) after = record { front = c.rest; split = refl; spelled = c.second } in
+      sized_any LocalsAndBody (Malformed (length after + length rest))
+      (sized_unfilled rest number size p counted whole (Any LocalsAndBody) StopsLocalsAndBody (inside_end o expression)
+      (inside_apart o stops stops' code.0 small.0 first code.1 small.1 second) (took_any LocalsAndBody code q) differs)
 
 -- ---- code for each of so many functions
-
-abbrev CountedCode : ℕ → Grammar
-CountedCode functions = Unsigned 32 functions ⊳ Counted Code functions
-
-abbrev StopsCounted : ℕ → Stop
-StopsCounted functions = Behind (Unsigned 32 functions) (Among functions Code HasFewLocals StopsCode)
 
 codes_inside : (functions : ℕ) (front : List ℕ) → CodesFor functions front → Sized (CountedCode functions) front
 codes_inside functions front p =
@@ -118,46 +111,44 @@ counted_end o n = record {
 pub codes_size : (functions : ℕ) {bytes : List ℕ} (e : Fault) → Fails (Any (Unsigned 32)) Nowhere bytes e → Fails (CodesFor functions) (StopsCodesFor functions) bytes e
 codes_size functions e f = as_codes functions e (sized_size (CountedCode functions) (StopsCounted functions) e f)
 
-pub codes_count : (functions : ℕ) {bytes mid : List ℕ} → OneForm (Unsigned 32) → (size : ℕ) → Took (Unsigned 32 size) bytes mid → (e : Fault) →
-    Fails (Any (Unsigned 32)) Nowhere mid e → Fails (CodesFor functions) (StopsCodesFor functions) bytes e
-codes_count functions o size p e f = as_codes functions e (sized_inside o size p e
-    (behind_first (Counted Code functions) (Among functions Code HasFewLocals StopsCode) e
-    (fails_map (λ front q. (functions, q, tt)) (λ place feature t. t) (λ place feature t. t) e f)))
+-- the number isn't there, or is another one
+pub codes_count : (functions : ℕ) {bytes : List ℕ} (e : Fault) → Fails (Any (Unsigned 32)) Nowhere bytes e → Fails (CountedCode functions) (StopsCounted functions) bytes e
+codes_count functions e f = behind_first (Counted Code functions) (Among functions Code IsSmallCode StopsCode) e
+    (fails_map (λ front q. (functions, q, tt)) (λ place feature t. t) (λ place feature t. t) e f)
 
-pub codes_other_count : (functions : ℕ) {bytes mid first : List ℕ} → OneForm (Unsigned 32) → (size : ℕ) → Took (Unsigned 32 size) bytes mid → (count : ℕ) →
-    Took (Unsigned 32 count) mid first → ¬ (count ≡ functions) → Fails (CodesFor functions) (StopsCodesFor functions) bytes (Malformed (length mid))
-codes_other_count functions {mid = mid} o size p count q differs =
-    let e = Malformed (length mid) in
-    as_codes functions e (sized_inside o size p e
-    (behind_first (Counted Code functions) (Among functions Code HasFewLocals StopsCode) e (record {
+pub codes_other_count : (functions : ℕ) {bytes first : List ℕ} → OneForm (Unsigned 32) → (count : ℕ) → Took (Unsigned 32 count) bytes first → ¬ (count ≡ functions) →
+    Fails (CountedCode functions) (StopsCounted functions) bytes (Malformed (length bytes))
+codes_other_count functions {bytes} o count q differs =
+    behind_first (Counted Code functions) (Among functions Code IsSmallCode StopsCode) (Malformed (length bytes)) (record {
       reason = (omega arith, record { none = λ rest r. differs (took_alike o count functions q r).thing; nowhere = λ place feature n. n });
-    })))
+    })
 
-pub codes_entries : (functions : ℕ) {bytes mid first : List ℕ} → OneForm (Unsigned 32) → (size : ℕ) → Took (Unsigned 32 size) bytes mid → (count : ℕ) →
-    count ≡ functions → Took (Unsigned 32 count) mid first → (e : Fault) → Fails (Counted Code count) (Among count Code HasFewLocals StopsCode) first e →
-    Fails (CodesFor functions) (StopsCodesFor functions) bytes e
-codes_entries functions {mid = mid} {first = first} o size p count is q e f = as_codes functions e (sized_inside o size p e
-    (behind_second (number_end o functions) (subst (λ n. Took (Unsigned 32 n) mid first) is q) e
-    (subst (λ n. Fails (Counted Code n) (Among n Code HasFewLocals StopsCode) first e) is f)))
+-- the code isn't there
+pub codes_entries : (functions : ℕ) {bytes first : List ℕ} → OneForm (Unsigned 32) → (count : ℕ) → count ≡ functions → Took (Unsigned 32 count) bytes first → (e : Fault) →
+    Fails (Counted Code count) (Among count Code IsSmallCode StopsCode) first e → Fails (CountedCode functions) (StopsCounted functions) bytes e
+codes_entries functions {bytes} {first} o count is q e f =
+    behind_second (number_end o functions) (subst (λ n. Took (Unsigned 32 n) bytes first) is q) e
+    (subst (λ n. Fails (Counted Code n) (Among n Code IsSmallCode StopsCode) first e) is f)
 
-pub codes_unfilled : (functions : ℕ) {bytes mid first rest : List ℕ} → OneForm (Unsigned 32) → OneForm Code → OneStop Code HasFewLocals StopsCode → (size : ℕ) →
-    Took (Unsigned 32 size) bytes mid → (count : ℕ) → count ≡ functions → Took (Unsigned 32 count) mid first → (codes : List (List ValType × List Instr)) →
-    length codes ≡ count → AllByRecursion HasFewLocals codes → Took (Each Code codes) first rest → ¬ (length mid ≡ length rest + size) →
-    Fails (CodesFor functions) (StopsCodesFor functions) bytes (Malformed (length rest))
-codes_unfilled functions {mid = mid} {first = first} {rest = rest} number o stops size p count is q codes counted few r differs =
-    let e = Malformed (length rest) in
-    let vector : Took (Vector Code codes) mid rest = took_vector Code codes count q counted r in
-    let inside : Took (CountedCode functions) mid rest = took_map (λ front v. record {
-      front = v.front;
-      rest = v.rest;
-      split = v.split;
-      first = subst (λ n. Unsigned 32 n v.front) (counted ∙ is) v.first;
-      second = (codes, counted ∙ is, v.second);
-    }) vector in
-    as_codes functions e (sized_unfilled (StopsCounted functions) number (pair_end (number_end number functions) (counted_end o functions))
-    (λ place feature t. vector_apart number o stops codes few vector place feature (functions, t)) size p inside differs)
+-- so many are a vector
+as_counted : (functions : ℕ) (codes : List (List ValType × List Instr)) → length codes ≡ functions → (front : List ℕ) → Vector Code codes front → CountedCode functions front
+as_counted functions codes count front v = record {
+  front = v.front;
+  rest = v.rest;
+  split = v.split;
+  first = subst (λ n. Unsigned 32 n v.front) count v.first;
+  second = (codes, count, v.second);
+}
 
-pub codes_took : {bytes mid first rest : List ℕ} (size : ℕ) → Took (Unsigned 32 size) bytes mid → (count : ℕ) → Took (Unsigned 32 count) mid first →
-    (codes : List (List ValType × List Instr)) → length codes ≡ count → Took (Each Code codes) first rest → length mid ≡ length rest + size →
-    Took (Sized (Vector Code codes)) bytes rest
-codes_took size p count q codes counted r filled = sized_took size p (took_vector Code codes count q counted r) filled
+module _ {bytes behind inside : List ℕ} (rest : List ℕ) (functions : ℕ) (number : OneForm (Unsigned 32)) (size : ℕ) (p : Took (Unsigned 32 size) bytes behind)
+    (counted : inside ≡ take size behind) (whole : behind ≡ inside ++ rest) where
+  pub codes_missing : (e : Fault) → Fails (CountedCode functions) (StopsCounted functions) inside e →
+      Fails (CodesFor functions) (StopsCodesFor functions) bytes (moved_by (length rest) e)
+  codes_missing e f = as_codes functions (moved_by (length rest) e) (sized_inside rest number size p counted whole (CountedCode functions) (StopsCounted functions) e f)
+
+  pub codes_unfilled : {after : List ℕ} → OneForm Code → OneStop Code IsSmallCode StopsCode → (codes : List (List ValType × List Instr)) → length codes ≡ functions →
+      AllByRecursion IsSmallCode codes → Took (Vector Code codes) inside after → ¬ ((after ≡ []) × (length inside ≡ size)) →
+      Fails (CodesFor functions) (StopsCodesFor functions) bytes (Malformed (length after + length rest))
+  codes_unfilled {after} o stops codes count small q differs = as_codes functions (Malformed (length after + length rest))
+      (sized_unfilled rest number size p counted whole (CountedCode functions) (StopsCounted functions) (pair_end (number_end number functions) (counted_end o functions))
+      (λ place feature t. vector_apart number o stops codes small q place feature (functions, t)) (took_map (as_counted functions codes count) q) differs)

@@ -4,7 +4,7 @@ use Rattle.std.specs.Prelude.{Result, Ok, Err, IfOk, IfErr, OnOk}
 use Rattle.hph_wasm.specs.Leb128.{Unsigned}
 use Rattle.hph_wasm.specs.Grammar.{Grammar, Vector, Sized, FunctionType, TableType, MemoryType}
 use Rattle.hph_wasm.specs.ModuleGrammar.{Imported, GlobalWithValue, Exported, Elements, Data, Parts}
-use Rattle.hph_wasm.specs.Unsupported.{Stop, Any, Nowhere, Behind, InVector, IsAnything, IsSmallImport, IsSmallTable, IsSmallMemory, StopsFunctionType, StopsImported, StopsTableType, StopsMemoryType, StopsGlobal, StopsOffset}
+use Rattle.hph_wasm.specs.Unsupported.{Stop, Any, Nowhere, InSized, InVector, IsAnything, HasShallowValue, HasShallowEntry, HasShallowPlace, IsSmallImport, IsSmallTable, IsSmallMemory, StopsFunctionType, StopsImported, StopsTableType, StopsMemoryType, StopsGlobal, StopsOffset}
 use Rattle.hph_wasm.specs.declared.feature.Feature.{Feature}
 use Rattle.hph_wasm.specs.Reading.{Things, Content, with_things, HaveCode}
 use Rattle.hph_wread.specs.declared.fault.Fault.{Fault}
@@ -34,7 +34,7 @@ abbrev pub Entries : {X : Type 0} → (X → Grammar) → Grammar
 Entries P = Any (λ xs. Sized (Vector P xs))
 
 abbrev pub StopsEntries : {X : Type 0} → (X → Grammar) → (X → Type 0) → Stop → Stop
-StopsEntries P Fits S = Behind (Any (Unsigned 32)) (InVector P Fits S)
+StopsEntries P Fits S = InSized (InVector P Fits S)
 
 -- the content of this kind isn't there
 abbrev pub ContentFails : SectionKind → Parts → List ℕ → Fault → Type 0
@@ -42,12 +42,12 @@ ContentFails k p bytes e = Fails (ContentOf (kind_of k) p) (StopsSized (kind_of 
 
 -- where nothing stops in an entry, nothing stops in the section
 nowhere : {X : Type 0} (P : X → Grammar) {bytes : List ℕ} (place : ℕ) (feature : Feature) → StopsEntries P IsAnything Nowhere place feature bytes →
-    Behind (Any (Unsigned 32)) Nowhere place feature bytes
-nowhere P place feature t = absurd t.stops.1.stops.stops.stops
+    InSized Nowhere place feature bytes
+nowhere P place feature t = absurd t.1.stops.1.stops.stops.stops
 
-somewhere : {X : Type 0} (P : X → Grammar) {bytes : List ℕ} (place : ℕ) (feature : Feature) → Behind (Any (Unsigned 32)) Nowhere place feature bytes →
+somewhere : {X : Type 0} (P : X → Grammar) {bytes : List ℕ} (place : ℕ) (feature : Feature) → InSized Nowhere place feature bytes →
     StopsEntries P IsAnything Nowhere place feature bytes
-somewhere P place feature t = absurd t.stops
+somewhere P place feature t = absurd t.1.stops
 
 module _ (p : Parts) {bytes : List ℕ} (e : Fault) where
   pub types_fail : Fails (Entries FunctionType) (StopsEntries FunctionType IsAnything StopsFunctionType) bytes e → ContentFails kind.Types p bytes e
@@ -65,42 +65,48 @@ module _ (p : Parts) {bytes : List ℕ} (e : Fault) where
   pub memories_fail : Fails (Entries MemoryType) (StopsEntries MemoryType IsSmallMemory StopsMemoryType) bytes e → ContentFails kind.Memories p bytes e
   memories_fail f = fails_map (λ front q. (q.0, q.2, tt)) (λ place feature t. t) (λ place feature t. t) e f
 
-  pub globals_fail : Fails (Entries GlobalWithValue) (StopsEntries GlobalWithValue IsAnything StopsGlobal) bytes e → ContentFails kind.Globals p bytes e
+  pub globals_fail : Fails (Entries GlobalWithValue) (StopsEntries GlobalWithValue HasShallowValue StopsGlobal) bytes e → ContentFails kind.Globals p bytes e
   globals_fail f = fails_map (λ front q. (q.0, q.2, tt)) (λ place feature t. t) (λ place feature t. t) e f
 
   pub exports_fail : Fails (Entries Exported) (StopsEntries Exported IsAnything Nowhere) bytes e → ContentFails kind.Exports p bytes e
   exports_fail f = fails_map (λ front q. (q.0, q.2, tt)) (nowhere Exported) (somewhere Exported) e f
 
-  pub elements_fail : Fails (Entries Elements) (StopsEntries Elements IsAnything StopsOffset) bytes e → ContentFails kind.Elements p bytes e
+  pub elements_fail : Fails (Entries Elements) (StopsEntries Elements HasShallowEntry StopsOffset) bytes e → ContentFails kind.Elements p bytes e
   elements_fail f = fails_map (λ front q. (q.0, q.2, tt)) (λ place feature t. t) (λ place feature t. t) e f
 
   pub codes_fail : Fails (CodesFor (length p.functions)) (StopsCodesFor (length p.functions)) bytes e → ContentFails kind.Codes p bytes e
   codes_fail f = fails_map (λ front q. (q.0, q.1, q.2)) (λ place feature t. t) (λ place feature t. t) e f
 
-  pub segments_fail : length p.codes ≡ length p.functions → Fails (Entries Data) (StopsEntries Data IsAnything StopsOffset) bytes e →
+  pub segments_fail : length p.codes ≡ length p.functions → Fails (Entries Data) (StopsEntries Data HasShallowPlace StopsOffset) bytes e →
       ContentFails kind.Segments p bytes e
-  segments_fail same f = fails_map (λ front q. (q.0, q.2, tt)) (λ place feature t. record {
-    front = t.front;
-    rest = t.rest;
-    split = t.split;
-    before = t.before;
-    place = t.place;
-    counted = t.counted;
-    stops = (same, t.stops);
-  }) (λ place feature t. record {
-    front = t.front;
-    rest = t.rest;
-    split = t.split;
-    before = t.before;
-    place = t.place;
-    counted = t.counted;
-    stops = t.stops.1;
-  }) e f
+  segments_fail same f = fails_map (λ front q. (q.0, q.2, tt)) (λ place feature t. (
+    t.0,
+    record {
+      front = t.1.front;
+      rest = t.1.rest;
+      split = t.1.split;
+      before = t.1.before;
+      place = t.1.place;
+      counted = t.1.counted;
+      stops = (same, t.1.stops);
+    },
+  )) (λ place feature t. (
+    t.0,
+    record {
+      front = t.1.front;
+      rest = t.1.rest;
+      split = t.1.split;
+      before = t.1.before;
+      place = t.1.place;
+      counted = t.1.counted;
+      stops = t.1.stops.1;
+    },
+  )) e f
 
 -- data stands behind code for each function
 pub segments_early : (p : Parts) {bytes : List ℕ} → ¬ (length p.codes ≡ length p.functions) → ContentFails kind.Segments p bytes (Malformed (length bytes))
 segments_early p early = record {
-  reason = (omega arith, record { none = λ rest q. early q.spelled.1; nowhere = λ place feature t. early t.stops.0 });
+  reason = (omega arith, record { none = λ rest q. early q.spelled.1; nowhere = λ place feature t. early t.1.stops.0 });
 }
 
 -- the fault of a call, at a kind that is known

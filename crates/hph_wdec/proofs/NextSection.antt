@@ -2,18 +2,18 @@
 use Rattle.std.proofs.Common.{◌≡◌, ◌<◌, ◌≤◌, inl, inr, ◌∙◌, ℕ, suc, ◌+◌, List, [], ◌∷◌, ◌++◌, length, refl, sym, ap, subst, arith, length-append, Some, None}
 use Rattle.std.specs.Prelude.{nat_eq, if◌then◌else◌, IsUtf8}
 use Rattle.hph_wasm.specs.Leb128.{Unsigned}
-use Rattle.hph_wasm.specs.Grammar.{Grammar, Byte, Bytes, ◌⊳◌, Sized}
+use Rattle.hph_wasm.specs.Grammar.{Grammar, Byte, Bytes, Sized}
 use Rattle.hph_wasm.specs.OneWay.{OneForm}
 use Rattle.hph_wasm.specs.ModuleGrammar.{RawSection, BeginsWithName, Parts}
 use Rattle.hph_wasm.specs.Reading.{Content}
-use Rattle.hph_wasm.specs.Unsupported.{Stop, Any, Nowhere, Behind, AtByte, Kind, Types, Imports, Functions, Tables, Memories, Globals, Exports, ElementSegments, Codes, DataSegments, number_of, StopsContent, start_section}
+use Rattle.hph_wasm.specs.Unsupported.{Stop, Any, Nowhere, Behind, AtByte, Kind, Types, Imports, Functions, Tables, Memories, Globals, Exports, ElementSegments, Codes, DataSegments, number_of, start_section}
 use Rattle.hph_wasm.specs.declared.feature.Feature.{Feature}
 use Rattle.hph_wasm.specs.declared.feature.Feature.TheVariants.{Start}
 use Rattle.hph_wread.specs.declared.fault.Fault.{Fault}
 use Rattle.hph_wread.specs.declared.fault.Fault.TheVariants.{Malformed, Unsupported, NoMemory}
 use Rattle.hph_wread.specs.Reading.{Took, Fails}
 use Rattle.hph_wread.proofs.Combinators.{took_then, fails_map}
-use Rattle.hph_wread.proofs.Tagged.{took_byte, byte_took, tagged_fails}
+use Rattle.hph_wread.proofs.Tagged.{took_byte, byte_took, byte_stop, no_byte_stop, stop_behind_byte, tagged_fails}
 use Rattle.hph_wread.proofs.Vectors.{took_alike}
 use Rattle.hph_wdec.specs.Next.{CustomContent, ContentOf, StopsSized, Gives, FollowsAfter, NextIs, Next, StopsNext}
 
@@ -74,39 +74,10 @@ section_behind : (number : ℕ) {bytes mid rest : List ℕ} → bytes ≡ number
     (number ≡ section.0) × Took (Bytes section.1) mid rest
 section_behind number is section p = let s = byte_took number section.0 (Bytes section.1) is p in (s.same, s.behind)
 
--- a stop behind a number and a size, and behind the size alone
+-- a stop behind a number
 stop_inside : (number id : ℕ) (S : Stop) {bytes mid : List ℕ} → bytes ≡ number ∷ mid → (place : ℕ) (feature : Feature) →
-    Behind (Byte id ⊳ Any (Unsigned 32)) S place feature bytes → (number ≡ id) × (before : ℕ) × Behind (Any (Unsigned 32)) S before feature mid
-stop_inside number id S {bytes} {mid} is place feature b =
-    let two = b.before in
-    let flat : number ∷ mid ≡ id ∷ (two.rest ++ b.rest) =
-    sym is ∙ b.split ∙ ap (λ l. l ++ b.rest) two.split ∙ ap (λ l. (l ++ two.rest) ++ b.rest) two.first in
-    let tails : mid ≡ two.rest ++ b.rest = cc in
-    let heads : number ≡ id = cc in (
-      heads,
-      length two.rest + b.place,
-      record {
-        front = two.rest;
-        rest = b.rest;
-        split = tails;
-        before = two.second;
-        place = b.place;
-        counted = refl;
-        stops = b.stops;
-      },
-    )
-
-stop_outside : (number : ℕ) (S : Stop) {bytes mid : List ℕ} → bytes ≡ number ∷ mid → (place : ℕ) (feature : Feature) →
-    Behind (Any (Unsigned 32)) S place feature mid → Behind (Byte number ⊳ Any (Unsigned 32)) S (suc place) feature bytes
-stop_outside number S is place feature b = record {
-  front = number ∷ b.front;
-  rest = b.rest;
-  split = is ∙ ap (λ l. number ∷ l) b.split;
-  before = record { front = number ∷ []; rest = b.front; split = refl; first = refl; second = b.before };
-  place = b.place;
-  counted = omega (arith, b.counted);
-  stops = b.stops;
-}
+    Behind (Byte id) S place feature bytes → (number ≡ id) × (before : ℕ) × S before feature mid
+stop_inside number id S is place feature b = let s = byte_stop number id S is place feature b in (s.same, s.before, s.stops)
 
 -- the start section's byte
 start_byte : (number : ℕ) {mid : List ℕ} {bytes : List ℕ} → bytes ≡ number ∷ mid → (place : ℕ) (feature : Feature) → AtByte start_section place feature bytes → number ≡ 8
@@ -137,10 +108,7 @@ next_nothing p last {bytes} is = record {
   where
     nothing_stops : (place : ℕ) (feature : Feature) → ¬ StopsNext p last place feature bytes
     nothing_stops place feature (inl (kind, above, b)) =
-        let two = b.before in
-        let flat : [] ≡ number_of kind ∷ (two.rest ++ b.rest) =
-        sym is ∙ b.split ∙ ap (λ l. l ++ b.rest) two.split ∙ ap (λ l. (l ++ two.rest) ++ b.rest) two.first in
-        let no : ⊥ = cc in no
+        no_byte_stop (number_of kind) (StopsSized kind p) is place feature b
     nothing_stops place feature (inr (above, t)) = subst (AtByte start_section place feature) is t
 
 -- a number that no section may have that stands there
@@ -162,7 +130,7 @@ next_other p last number {bytes} {mid} is custom kinds start = record {
     no_section rest q next section raw (inr f) = kinds f.0 f.2 (sym f.1 ∙ sym (section_behind number is section raw).0)
 
     no_stop : (place : ℕ) (feature : Feature) → ¬ StopsNext p last place feature bytes
-    no_stop place feature (inl (kind, above, b)) = kinds kind above (sym (stop_inside number (number_of kind) (StopsContent p kind) is place feature b).0)
+    no_stop place feature (inl (kind, above, b)) = kinds kind above (sym (stop_inside number (number_of kind) (StopsSized kind p) is place feature b).0)
     no_stop place feature (inr (above, t)) = start above (start_byte number is place feature t)
 
 -- a start section
@@ -196,7 +164,7 @@ custom_missing p last {bytes} {mid} is e f = tagged_fails 0 is
     took rest q next section raw (inr f) = absurd (not_custom f.0 (sym f.1 ∙ sym (section_behind 0 is section raw).0))
 
     stop : (place : ℕ) (feature : Feature) → StopsNext p last place feature bytes → (before : ℕ) × Nowhere before feature mid
-    stop place feature (inl (kind, above, b)) = absurd (not_custom kind (sym (stop_inside 0 (number_of kind) (StopsContent p kind) is place feature b).0))
+    stop place feature (inl (kind, above, b)) = absurd (not_custom kind (sym (stop_inside 0 (number_of kind) (StopsSized kind p) is place feature b).0))
     stop place feature (inr (above, t)) = absurd (omega (arith, start_byte 0 is place feature t))
 
 -- another section
@@ -233,8 +201,8 @@ content_missing p last number kind {bytes} {mid} is own above e f = tagged_fails
     (λ place feature t. inl (
       kind,
       omega (arith, own, above),
-      subst (λ n. Behind (Byte n ⊳ Any (Unsigned 32)) (StopsContent p kind) (suc place) feature bytes) (sym own)
-          (stop_outside number (StopsContent p kind) is place feature t),
+      subst (λ n. Behind (Byte n) (StopsSized kind p) (suc place) feature bytes) (sym own)
+          (stop_behind_byte number (StopsSized kind p) is place feature t),
     ))
     (λ place feature t. stop place feature t) e f
   where
@@ -253,7 +221,7 @@ content_missing p last number kind {bytes} {mid} is own above e f = tagged_fails
 
     stop : (place : ℕ) (feature : Feature) → StopsNext p last place feature bytes → (before : ℕ) × StopsSized kind p before feature mid
     stop place feature (inl (k, over, b)) =
-        let inside = stop_inside number (number_of k) (StopsContent p k) is place feature b in
+        let inside = stop_inside number (number_of k) (StopsSized k p) is place feature b in
         let one : k ≡ kind = one_kind k kind (sym inside.0 ∙ sym own) in
         (inside.1, subst (λ k. StopsSized k p inside.1 feature mid) one inside.2)
     stop place feature (inr (over, t)) = absurd (not_start kind (own ∙ start_byte number is place feature t))

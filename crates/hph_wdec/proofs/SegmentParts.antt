@@ -5,7 +5,7 @@ use Rattle.hph_wasm.specs.Grammar.{Grammar, ◌⊳◌, Vector, Bytes, GlobalOf}
 use Rattle.hph_wasm.specs.InstructionGrammar.{Expression}
 use Rattle.hph_wasm.specs.ModuleGrammar.{GlobalWithValue, Elements, Data}
 use Rattle.hph_wasm.specs.OneWay.{OneForm, OneStop}
-use Rattle.hph_wasm.specs.Unsupported.{Any, Nowhere, IsAnything, InVector, StopsValueType, StopsExpression, StopsGlobal, StopsOffset}
+use Rattle.hph_wasm.specs.Unsupported.{Any, Nowhere, IsAnything, IsShallowExpression, InVector, StopsValueType, StopsExpression, StopsGlobal, StopsOffset}
 use Rattle.hph_wasm.specs.declared.types.GlobalType.{GlobalType}
 use Rattle.hph_wasm.specs.declared.instr.Instr.{Instr}
 use Rattle.hph_wread.specs.declared.fault.Fault.{Fault}
@@ -38,11 +38,11 @@ offset_place : (Q : Grammar) {bytes mid : List ℕ} → OneForm (Unsigned 32) �
     Fails (Any Expression) StopsExpression mid e → Fails (Offset Q) StopsOffset bytes e
 offset_place Q o n p e f = behind_second (one_end o) (took_any (Unsigned 32) n p) e (stops_first Q e f)
 
-offset_rest : {Q : Grammar} {bytes mid next : List ℕ} → OneForm (Unsigned 32) → OneForm Expression → OneStop Expression IsAnything StopsExpression →
-    (n : ℕ) → Took (Unsigned 32 n) bytes mid → (offset : List Instr) → Took (Expression offset) mid next → (e : Fault) →
+offset_rest : {Q : Grammar} {bytes mid next : List ℕ} → OneForm (Unsigned 32) → OneForm Expression → OneStop Expression IsShallowExpression StopsExpression →
+    (n : ℕ) → Took (Unsigned 32 n) bytes mid → (offset : List Instr) → IsShallowExpression offset → Took (Expression offset) mid next → (e : Fault) →
     Fails Q Nowhere next e → Fails (Offset Q) StopsOffset bytes e
-offset_rest o expression stops n p offset q e f = behind_second (one_end o) (took_any (Unsigned 32) n p) e
-    (stops_before StopsExpression (one_end expression) (took_apart stops offset q tt) (took_any Expression offset q) e f)
+offset_rest o expression stops n p offset shallow q e f = behind_second (one_end o) (took_any (Unsigned 32) n p) e
+    (stops_before StopsExpression (one_end expression) (took_apart stops offset q shallow) (took_any Expression offset q) e f)
 
 -- an element segment
 element_parts : (front : List ℕ) → Any Elements front → Offset (Any (Vector (Unsigned 32))) front
@@ -72,10 +72,10 @@ pub numbers_stop_nowhere : {bytes : List ℕ} (e : Fault) → Fails (Any (Vector
     Fails (Any (Vector (Unsigned 32))) Nowhere bytes e
 numbers_stop_nowhere e f = fails_map (λ front q. q) (λ place feature t. t.1.stops.stops.stops) (λ place feature t. absurd t) e f
 
-pub element_funcs : {bytes mid next : List ℕ} → OneForm (Unsigned 32) → OneForm Expression → OneStop Expression IsAnything StopsExpression →
-    (n : ℕ) → Took (Unsigned 32 n) bytes mid → (offset : List Instr) → Took (Expression offset) mid next → (e : Fault) →
+pub element_funcs : {bytes mid next : List ℕ} → OneForm (Unsigned 32) → OneForm Expression → OneStop Expression IsShallowExpression StopsExpression →
+    (n : ℕ) → Took (Unsigned 32 n) bytes mid → (offset : List Instr) → IsShallowExpression offset → Took (Expression offset) mid next → (e : Fault) →
     Fails (Any (Vector (Unsigned 32))) (InVector (Unsigned 32) IsAnything Nowhere) next e → Fails (Any Elements) StopsOffset bytes e
-element_funcs o expression stops n p offset q e f = as_element e (offset_rest o expression stops n p offset q e (numbers_stop_nowhere e f))
+element_funcs o expression stops n p offset shallow q e f = as_element e (offset_rest o expression stops n p offset shallow q e (numbers_stop_nowhere e f))
 
 -- a data segment
 data_parts : (front : List ℕ) → Any Data front → Offset (Any Bytes) front
@@ -100,7 +100,7 @@ pub data_offset : {bytes mid : List ℕ} → OneForm (Unsigned 32) → (n : ℕ)
     Fails (Any Expression) StopsExpression mid e → Fails (Any Data) StopsOffset bytes e
 data_offset o n p e f = as_data e (offset_place (Any Bytes) o n p e f)
 
-pub data_bytes : {bytes mid next : List ℕ} → OneForm (Unsigned 32) → OneForm Expression → OneStop Expression IsAnything StopsExpression →
-    (n : ℕ) → Took (Unsigned 32 n) bytes mid → (offset : List Instr) → Took (Expression offset) mid next → (e : Fault) →
+pub data_bytes : {bytes mid next : List ℕ} → OneForm (Unsigned 32) → OneForm Expression → OneStop Expression IsShallowExpression StopsExpression →
+    (n : ℕ) → Took (Unsigned 32 n) bytes mid → (offset : List Instr) → IsShallowExpression offset → Took (Expression offset) mid next → (e : Fault) →
     Fails (Any Bytes) Nowhere next e → Fails (Any Data) StopsOffset bytes e
-data_bytes o expression stops n p offset q e f = as_data e (offset_rest o expression stops n p offset q e f)
+data_bytes o expression stops n p offset shallow q e f = as_data e (offset_rest o expression stops n p offset shallow q e f)

@@ -134,7 +134,7 @@ so_far_begins {rest = rest} p = record {
     stand = record { front = p.front; rest = []; split = sym (append-nil p.front); first = p.spelled; second = refl };
     named = tt;
     inside = (refl, (refl, (refl, (refl, (refl, (refl, (refl, (refl, (refl, (refl, refl))))))))));
-    supported = record { imports = tt; tables = tt; memories = tt; codes = tt };
+    supported = record { imports = tt; tables = tt; memories = tt; globals = tt; elements = tt; codes = tt; segments = tt };
   };
   is_last = record { below = λ id some b. tt; above = λ id some b. some };
 }

@@ -1,3 +1,4 @@
 pub mod Answers
 pub mod Locals
+pub mod Sized
 pub mod Next

@@ -4,8 +4,9 @@ use Rattle.std.specs.Prelude.{◌≡◌, ◌<◌, ◌⊎◌, ℕ, List, length}
 use Rattle.hph_wasm.specs.Leb128.{Unsigned}
 use Rattle.hph_wasm.specs.Grammar.{Grammar, Bytes, Byte, ◌⊳◌, Sized, Vector}
 use Rattle.hph_wasm.specs.ModuleGrammar.{Code, RawSection, BeginsWithName, Parts}
-use Rattle.hph_wasm.specs.Unsupported.{Stop, Any, Among, Behind, AtByte, HasFewLocals, StopsCode, Kind, Types, Imports, Functions, Tables, Memories, Globals, Exports, ElementSegments, Codes, DataSegments, number_of, StopsContent, start_section}
+use Rattle.hph_wasm.specs.Unsupported.{Stop, Among, Behind, InSized, AtByte, IsSmallCode, StopsCode, Kind, Types, Imports, Functions, Tables, Memories, Globals, Exports, ElementSegments, Codes, DataSegments, number_of, StopsContent, start_section}
 use Rattle.hph_wasm.specs.Reading.{Things, Content, with_things, HaveCode}
+use Rattle.hph_wread.specs.Counted.{Counted}
 use Rattle.hph_wdec.specs.declared.kinds.SectionKind.{SectionKind}
 use Rattle.hph_wdec.specs.declared.kinds.SectionKind.TheVariants as kind
 use Rattle.hph_wdec.specs.declared.sections.Sections.{Sections}
@@ -48,14 +49,21 @@ ContentOf kind p front = (xs : Things kind) × HaveCode kind xs p × Sized (Cont
 
 -- something left out in it
 abbrev pub StopsSized : Kind → Parts → Stop
-StopsSized kind p = Behind (Any (Unsigned 32)) (StopsContent p kind)
+StopsSized kind p = InSized (StopsContent p kind)
 
--- code for each of so many functions, behind the size of the section (5.5.13)
+-- code for each of so many functions, behind their number (5.5.13)
+abbrev pub CountedCode : ℕ → Grammar
+CountedCode functions = Unsigned 32 functions ⊳ Counted Code functions
+
+abbrev pub StopsCounted : ℕ → Stop
+StopsCounted functions = Behind (Unsigned 32 functions) (Among functions Code IsSmallCode StopsCode)
+
+-- and so behind the size of the section
 abbrev pub CodesFor : ℕ → Grammar
 CodesFor functions front = (xs : Things Codes) × (length xs ≡ functions) × Sized (Vector Code xs) front
 
 abbrev pub StopsCodesFor : ℕ → Stop
-StopsCodesFor functions = Behind (Any (Unsigned 32)) (Behind (Unsigned 32 functions) (Among functions Code HasFewLocals StopsCode))
+StopsCodesFor functions = InSized (StopsCounted functions)
 
 -- the content was read, and the parts with it are these
 abbrev pub Gives : Kind → Parts → Parts → Grammar
@@ -81,5 +89,5 @@ Next p last front = (q : Parts) × (number : ℕ) × NextIs p last q number fron
 -- something left out in the next section
 abbrev pub StopsNext : Parts → ℕ → Stop
 StopsNext p last at feature bytes =
-    ((kind : Kind) × (last < number_of kind) × Behind (Byte (number_of kind) ⊳ Any (Unsigned 32)) (StopsContent p kind) at feature bytes)
+    ((kind : Kind) × (last < number_of kind) × Behind (Byte (number_of kind)) (StopsSized kind p) at feature bytes)
     ⊎ ((last < 8) × AtByte start_section at feature bytes)

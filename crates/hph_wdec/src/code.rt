@@ -3,13 +3,14 @@ ghost use Rattle.std.specs.Prelude.{◌≡◌, length, IfOk, IfErr, OnOk};
 ghost use Rattle.std.specs.List.{AllByRecursion};
 ghost use Rattle.hph_wasm.specs.Grammar.{Vector, Sized};
 ghost use Rattle.hph_wasm.specs.ModuleGrammar.{Code};
-ghost use Rattle.hph_wasm.specs.Unsupported.{Any, HasFewLocals, StopsCode};
+ghost use Rattle.hph_wasm.specs.Unsupported.{Any, IsSmallCode, StopsCode};
 ghost use Rattle.hph_wread.specs.Reading.{Took, Fails};
 ghost use Rattle.hph_wdec.specs.Locals.{LocalsAndBody, StopsLocalsAndBody};
-ghost use Rattle.hph_wdec.specs.Next.{CodesFor, StopsCodesFor};
+ghost use Rattle.hph_wdec.specs.Next.{CountedCode, StopsCounted, CodesFor, StopsCodesFor};
 
 use crate::entries::{EntryForm, counted_entries};
 use crate::locals::locals;
+use crate::sized::{is_filled, moved, within};
 use hph_wasm::{
     Instr, Locals, instructions_are_read_in_one_way, parts_stop_in_one_place,
     sections_are_read_in_one_way, types_are_read_in_one_way,
@@ -26,13 +27,13 @@ pub struct CodeForm;
 
 impl EntryForm for CodeForm {
     ghost use Rattle.hph_wasm.specs.ModuleGrammar.{Code};
-    ghost use Rattle.hph_wasm.specs.Unsupported.{HasFewLocals, StopsCode};
+    ghost use Rattle.hph_wasm.specs.Unsupported.{IsSmallCode, StopsCode};
 
     type Entry = FuncCode;
 
     ghost grammar = { Code };
 
-    ghost fits = { HasFewLocals };
+    ghost fits = { IsSmallCode };
 
     ghost stop = { StopsCode };
 
@@ -46,10 +47,10 @@ impl EntryForm for CodeForm {
     }
 }
 
-/// Code behind its size, which is compared where the body ends.
+/// Code behind its size, which is read within that, and compared with it where the body ends.
 fn code(alloc: Global, bytes: &[u8]) -> Result<(FuncCode, &[u8]), Fault>
     ensures read { IfOk result (λ r. Took (Code r.0) bytes.now r.1.now) }
-    ensures fit { IfOk result (λ r. HasFewLocals r.0) }
+    ensures fit { IfOk result (λ r. IsSmallCode r.0) }
     ensures stopped { IfErr result (λ e. Fails (Any Code) StopsCode bytes.now e) }
 {
     types_are_read_in_one_way();
@@ -57,17 +58,22 @@ fn code(alloc: Global, bytes: &[u8]) -> Result<(FuncCode, &[u8]), Fault>
     instructions_are_read_in_one_way();
     parts_stop_in_one_place();
     let (size, behind) = unsigned(bytes)?;
-    let (code, rest) = locals_and_body(alloc, behind)?;
-    if behind.len() != rest.len() + size as usize {
-        return Err(Fault::Malformed(rest.len()));
+    let (inside, rest) = within(behind, size);
+    match locals_and_body(alloc, inside) {
+        Ok((code, after)) => {
+            if !is_filled(size, inside, after) {
+                return Err(Fault::Malformed(after.len() + rest.len()));
+            }
+            Ok((code, rest))
+        }
+        Err(fault) => Err(moved(fault, inside, rest)),
     }
-    Ok((code, rest))
 }
 
 /// What stands behind the size of code.
 fn locals_and_body(alloc: Global, bytes: &[u8]) -> Result<(FuncCode, &[u8]), Fault>
     ensures read { IfOk result (λ r. Took (LocalsAndBody r.0) bytes.now r.1.now) }
-    ensures fit { IfOk result (λ r. HasFewLocals r.0) }
+    ensures fit { IfOk result (λ r. IsSmallCode r.0) }
     ensures stopped { IfErr result (λ e. Fails (Any LocalsAndBody) StopsLocalsAndBody bytes.now e) }
 {
     sections_are_read_in_one_way();
@@ -86,21 +92,42 @@ pub fn codes<'a>(
 ) -> Result<&'a [u8], Fault>
     ensures read { IfOk result (λ rest. Took (Sized (Vector Code into.new)) bytes.now rest.now) }
     ensures count { OnOk result (length into.new ≡ functions) }
-    ensures fit { OnOk result (AllByRecursion HasFewLocals into.new) }
+    ensures fit { OnOk result (AllByRecursion IsSmallCode into.new) }
     ensures stopped { IfErr result (λ e. Fails (CodesFor functions) (StopsCodesFor functions) bytes.now e) }
 {
     types_are_read_in_one_way();
     sections_are_read_in_one_way();
     parts_stop_in_one_place();
     let (size, behind) = unsigned(bytes)?;
-    let (count, first) = unsigned(behind)?;
+    let (inside, rest) = within(behind, size);
+    match codes_for(alloc, functions, inside) {
+        Ok((codes, after)) => {
+            if !is_filled(size, inside, after) {
+                return Err(Fault::Malformed(after.len() + rest.len()));
+            }
+            *into = codes;
+            Ok(rest)
+        }
+        Err(fault) => Err(moved(fault, inside, rest)),
+    }
+}
+
+/// Code for each of so many functions, behind their number.
+fn codes_for(
+    alloc: Global,
+    functions: usize,
+    bytes: &[u8],
+) -> Result<(Items<FuncCode>, &[u8]), Fault>
+    ensures read { IfOk result (λ r. Took (Vector Code r.0) bytes.now r.1.now) }
+    ensures count { IfOk result (λ r. length r.0 ≡ functions) }
+    ensures fit { IfOk result (λ r. AllByRecursion IsSmallCode r.0) }
+    ensures stopped { IfErr result (λ e. Fails (CountedCode functions) (StopsCounted functions) bytes.now e) }
+{
+    types_are_read_in_one_way();
+    let (count, first) = unsigned(bytes)?;
     if count as usize != functions {
-        return Err(Fault::Malformed(behind.len()));
+        return Err(Fault::Malformed(bytes.len()));
     }
     let (codes, rest) = counted_entries::<CodeForm>(alloc, count, first)?;
-    if behind.len() != rest.len() + size as usize {
-        return Err(Fault::Malformed(rest.len()));
-    }
-    *into = codes;
-    Ok(rest)
+    Ok((codes, rest))
 }

@@ -1,14 +1,14 @@
 //! Entries of sections, and the content that they make (Core Specification 1.0, 5.1.3 and 5.5.2).
 ghost use Rattle.std.specs.Prelude.{◌≡◌, ℕ, List, length, IfOk, IfErr, OnOk};
 ghost use Rattle.std.specs.List.{AllByRecursion};
-ghost use Rattle.hph_wasm.specs.Leb128.{Unsigned};
 ghost use Rattle.hph_wasm.specs.Grammar.{Each, Vector, Sized};
 ghost use Rattle.hph_wasm.specs.OneWay.{OneForm, OneStop};
-ghost use Rattle.hph_wasm.specs.Unsupported.{Any, Among, Behind, InVector};
+ghost use Rattle.hph_wasm.specs.Unsupported.{Any, Among, InSized, InVector};
 ghost use Rattle.hph_wasm.specs.declared.feature.Feature.{Feature};
 ghost use Rattle.hph_wread.specs.Reading.{Took, Fails};
 ghost use Rattle.hph_wread.specs.Counted.{Counted};
 
+use crate::sized::{is_filled, moved, within};
 use hph_wasm::types_are_read_in_one_way;
 use hph_wread::{Fault, unsigned};
 use sqlite_items::Items;
@@ -75,7 +75,7 @@ pub fn entries<F: EntryForm>(alloc: Global, bytes: &[u8]) -> Result<(Items<F::En
 }
 
 /// The content of a section behind its size: entries that take as many bytes. They are put in place of those in `into`, and
-/// what stands behind them is given. The size is compared where they end.
+/// what stands behind the size is given. They are read within it, and it is compared with them where they end.
 pub fn content<'a, F: EntryForm>(
     alloc: Global,
     bytes: &'a [u8],
@@ -84,15 +84,20 @@ pub fn content<'a, F: EntryForm>(
     ensures read { IfOk result (λ rest. Took (Sized (Vector F.grammar into.new)) bytes.now rest.now) }
     ensures fit { OnOk result (AllByRecursion F.fits into.new) }
     ensures stopped { IfErr result (λ e. Fails (Any (λ entries. Sized (Vector F.grammar entries)))
-        (Behind (Any (Unsigned 32)) (InVector F.grammar F.fits F.stop)) bytes.now e) }
+        (InSized (InVector F.grammar F.fits F.stop)) bytes.now e) }
 {
     F::read_in_one_way();
     types_are_read_in_one_way();
     let (size, behind) = unsigned(bytes)?;
-    let (entries, rest) = entries::<F>(alloc, behind)?;
-    if behind.len() != rest.len() + size as usize {
-        return Err(Fault::Malformed(rest.len()));
+    let (inside, rest) = within(behind, size);
+    match entries::<F>(alloc, inside) {
+        Ok((entries, after)) => {
+            if !is_filled(size, inside, after) {
+                return Err(Fault::Malformed(after.len() + rest.len()));
+            }
+            *into = entries;
+            Ok(rest)
+        }
+        Err(fault) => Err(moved(fault, inside, rest)),
     }
-    *into = entries;
-    Ok(rest)
 }

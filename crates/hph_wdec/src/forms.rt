@@ -1,7 +1,7 @@
 //! The entries of sections that are read by one call (Core Specification 1.0, 5.5.4 to 5.5.10).
 ghost use Rattle.std.specs.Prelude.{IfOk, IfErr};
 ghost use Rattle.hph_wasm.specs.ModuleGrammar.{GlobalWithValue};
-ghost use Rattle.hph_wasm.specs.Unsupported.{Any, StopsGlobal};
+ghost use Rattle.hph_wasm.specs.Unsupported.{Any, HasShallowValue, StopsGlobal};
 ghost use Rattle.hph_wread.specs.Reading.{Took, Fails};
 
 use crate::entries::EntryForm;
@@ -141,13 +141,13 @@ pub struct GlobalForm;
 
 impl EntryForm for GlobalForm {
     ghost use Rattle.hph_wasm.specs.ModuleGrammar.{GlobalWithValue};
-    ghost use Rattle.hph_wasm.specs.Unsupported.{IsAnything, StopsGlobal};
+    ghost use Rattle.hph_wasm.specs.Unsupported.{HasShallowValue, StopsGlobal};
 
     type Entry = Global;
 
     ghost grammar = { GlobalWithValue };
 
-    ghost fits = { IsAnything };
+    ghost fits = { HasShallowValue };
 
     ghost stop = { StopsGlobal };
 
@@ -164,6 +164,7 @@ impl EntryForm for GlobalForm {
 /// A global: its type, and the expression of its first value.
 fn global(alloc: alloc::Global, bytes: &[u8]) -> Result<(Global, &[u8]), Fault>
     ensures read { IfOk result (λ r. Took (GlobalWithValue r.0) bytes.now r.1.now) }
+    ensures fit { IfOk result (λ r. HasShallowValue r.0) }
     ensures stopped { IfErr result (λ e. Fails (Any GlobalWithValue) StopsGlobal bytes.now e) }
 {
     types_are_read_in_one_way();

@@ -14,6 +14,7 @@ mod module;
 mod module_fault;
 mod sections;
 mod segments;
+mod sized;
 
 pub use module::{read, read_written};
 pub use module_fault::ModuleFault;

@@ -1,7 +1,7 @@
 //! Segments of tables and of memories (Core Specification 1.0, 5.5.12 and 5.5.14).
 ghost use Rattle.std.specs.Prelude.{IfOk, IfErr};
 ghost use Rattle.hph_wasm.specs.ModuleGrammar.{Elements, Data};
-ghost use Rattle.hph_wasm.specs.Unsupported.{Any, StopsOffset};
+ghost use Rattle.hph_wasm.specs.Unsupported.{Any, HasShallowEntry, HasShallowPlace, StopsOffset};
 ghost use Rattle.hph_wread.specs.Reading.{Took, Fails};
 
 use crate::entries::EntryForm;
@@ -18,13 +18,13 @@ pub struct ElementForm;
 
 impl EntryForm for ElementForm {
     ghost use Rattle.hph_wasm.specs.ModuleGrammar.{Elements};
-    ghost use Rattle.hph_wasm.specs.Unsupported.{IsAnything, StopsOffset};
+    ghost use Rattle.hph_wasm.specs.Unsupported.{HasShallowEntry, StopsOffset};
 
     type Entry = Element;
 
     ghost grammar = { Elements };
 
-    ghost fits = { IsAnything };
+    ghost fits = { HasShallowEntry };
 
     ghost stop = { StopsOffset };
 
@@ -41,6 +41,7 @@ impl EntryForm for ElementForm {
 /// A table's number, the place of the first entry, and the functions from there on.
 fn element(alloc: Global, bytes: &[u8]) -> Result<(Element, &[u8]), Fault>
     ensures read { IfOk result (λ r. Took (Elements r.0) bytes.now r.1.now) }
+    ensures fit { IfOk result (λ r. HasShallowEntry r.0) }
     ensures stopped { IfErr result (λ e. Fails (Any Elements) StopsOffset bytes.now e) }
 {
     types_are_read_in_one_way();
@@ -64,13 +65,13 @@ pub struct SegmentForm;
 
 impl EntryForm for SegmentForm {
     ghost use Rattle.hph_wasm.specs.ModuleGrammar.{Data};
-    ghost use Rattle.hph_wasm.specs.Unsupported.{IsAnything, StopsOffset};
+    ghost use Rattle.hph_wasm.specs.Unsupported.{HasShallowPlace, StopsOffset};
 
     type Entry = Segment;
 
     ghost grammar = { Data };
 
-    ghost fits = { IsAnything };
+    ghost fits = { HasShallowPlace };
 
     ghost stop = { StopsOffset };
 
@@ -87,6 +88,7 @@ impl EntryForm for SegmentForm {
 /// A memory's number, the place of the first byte, and the bytes from there on.
 fn segment(alloc: Global, bytes: &[u8]) -> Result<(Segment, &[u8]), Fault>
     ensures read { IfOk result (λ r. Took (Data r.0) bytes.now r.1.now) }
+    ensures fit { IfOk result (λ r. HasShallowPlace r.0) }
     ensures stopped { IfErr result (λ e. Fails (Any Data) StopsOffset bytes.now e) }
 {
     types_are_read_in_one_way();

@@ -1,12 +1,12 @@
 -- Reading an instruction that begins no block (Core Specification 1.0, 5.4).
-use Rattle.std.proofs.Common.{◌≡◌, ◌∙◌, inl, inr, ℕ, zero, suc, List, [], ◌∷◌, length, refl, sym, ap, subst, arith, Option, Some, None}
+use Rattle.std.proofs.Common.{◌≡◌, ◌∙◌, inl, inr, ℕ, List, [], ◌∷◌, length, refl, sym, ap, subst, arith, Option, Some, None}
 use Rattle.std.specs.Prelude.{pos}
 use Rattle.hph_wasm.specs.Leb128.{Unsigned, Signed}
 use Rattle.hph_wasm.specs.Grammar.{Byte, ◌⊳◌, Vector}
 use Rattle.hph_wasm.specs.OneWay.{OneForm}
 use Rattle.hph_wasm.specs.Codes.{opcode}
 use Rattle.hph_wasm.specs.InstructionGrammar.{MemoryArgument, Instruction}
-use Rattle.hph_wasm.specs.Unsupported.{Any, Nowhere, AtByte, IsAnything, left_out, Opener, Opens, InVector}
+use Rattle.hph_wasm.specs.Unsupported.{Any, Nowhere, AtByte, IsAnything, left_out, InVector}
 use Rattle.hph_wasm.specs.declared.feature.Feature.{Feature}
 use Rattle.hph_wasm.specs.declared.instr.MemArg.{MemArg}
 use Rattle.hph_wasm.specs.declared.instr.Instr.{Instr, Unreachable, Nop, Block', Loop', If', Br, BrIf, BrTable, Return, Call, CallIndirect, Drop, Select, LocalGet, LocalSet, LocalTee, GlobalGet, GlobalSet, Load, LoadNarrow, Store, StoreNarrow, I32Const, I64Const, Eqz, Compare, Unary, Binary, Wrap, Extend}
@@ -17,56 +17,37 @@ use Rattle.hph_wread.specs.declared.forms.IndexForm.TheVariants as index
 use Rattle.hph_wread.specs.declared.forms.AccessForm.{AccessForm}
 use Rattle.hph_wread.specs.declared.forms.AccessForm.TheVariants as access
 use Rattle.hph_wread.specs.Reading.{Took, Fails}
-use Rattle.hph_wread.specs.Forms.{StopsInside, IsPlain, IsBare, index_code, indexed, access_code, accessed}
-use Rattle.hph_wread.proofs.Combinators.{took_then, took_split, took_any, took_behind, one_end, fails_map, plain_first, plain_second}
+use Rattle.hph_wread.specs.Forms.{StopsOpcode, IsPlain, IsBare, index_code, indexed, access_code, accessed}
+use Rattle.hph_wread.proofs.Combinators.{took_then, took_any, one_end, fails_map, plain_first, plain_second}
 use Rattle.hph_wread.proofs.Vectors.{vector_end}
 use Rattle.hph_wread.proofs.Tagged.{took_byte, tagged_fails}
-use Rattle.hph_wread.proofs.InstructionParts.{Index, Access, class, behind, Apart, opcode_took, no_opcode, opcode_kept, plain_opener}
-
-four_opens : {bytes rest : List ℕ} → Took (Byte 0x04) bytes rest → Took Opener bytes rest
-four_opens p = record { front = p.front; split = p.split; spelled = inr (inr p.spelled) }
-
--- what opens a block begins with its opcode
-pub opens_opener : {bytes rest : List ℕ} → Took Opens bytes rest → (mid : List ℕ) × Took Opener bytes mid
-opens_opener p = elim p.spelled [
-  | inl one ↦ let two = took_split (record { front = p.front; split = p.split; spelled = one }) in (two.mid, two.first)
-  | inr other ↦ let two = took_split (record { front = p.front; split = p.split; spelled = other }) in (two.mid, four_opens two.first)
-]
+use Rattle.hph_wread.proofs.InstructionParts.{Index, Access, class, behind, Apart, opcode_took, no_opcode, opcode_kept}
 
 at_first : (f : ℕ → Option Feature) (code : ℕ) {bytes mid : List ℕ} → bytes ≡ code ∷ mid → (place : ℕ) (feature : Feature) → AtByte f place feature bytes → (place ≡ 0) × (f code ≡ Some feature)
 at_first f code is place feature t = subst (AtByte f place feature) is t
 
--- a byte that begins no block stops only where it is left out
-pub plain_stop : (code : ℕ) {bytes mid : List ℕ} → IsPlain code → bytes ≡ code ∷ mid → (place : ℕ) (feature : Feature) → StopsInside place feature bytes → (place ≡ 0) × (left_out code ≡ Some feature)
-plain_stop code plain is place feature (zero, inl t) = at_first left_out code is place feature t
-plain_stop code plain is place feature (zero, inr b) = absurd (plain_opener code plain is (took_behind place feature b))
-plain_stop code plain is place feature (suc blocks, b) =
-    let two = took_split (took_behind place feature b) in
-    let opener = opens_opener two.first in
-    absurd (plain_opener code plain is opener.1)
-
-pub plain_fails : Apart → (j : Instr) {bytes mid : List ℕ} → IsPlain (opcode j) → bytes ≡ opcode j ∷ mid → (e : Fault) → Fails (behind (class j)) Nowhere mid e → Fails (Any Instruction) StopsInside bytes e
-plain_fails apart j plain is e f = tagged_fails (opcode j) is (λ rest p. opcode_took apart j is p) (λ place feature n. absurd n)
-    (λ place feature s. let out = (plain_stop (opcode j) plain is place feature s).1 in let never : ⊥ = cc (out, opcode_kept j) in absurd never) e f
+pub plain_fails : Apart → (j : Instr) {bytes mid : List ℕ} → bytes ≡ opcode j ∷ mid → (e : Fault) → Fails (behind (class j)) Nowhere mid e → Fails (Any Instruction) StopsOpcode bytes e
+plain_fails apart j is e f = tagged_fails (opcode j) is (λ rest p. opcode_took apart j is p) (λ place feature n. absurd n)
+    (λ place feature s. let out = (at_first left_out (opcode j) is place feature s).1 in let never : ⊥ = cc (out, opcode_kept j) in absurd never) e f
 
 -- an opcode of no instruction
-pub unknown_malformed : (code : ℕ) {bytes mid : List ℕ} → IsPlain code → bytes ≡ code ∷ mid → ((i : Instr) → ¬ (opcode i ≡ code)) → left_out code ≡ None →
-    Fails (Any Instruction) StopsInside bytes (Malformed (length bytes))
-unknown_malformed code plain is none kept = record {
+pub unknown_malformed : (code : ℕ) {bytes mid : List ℕ} → bytes ≡ code ∷ mid → ((i : Instr) → ¬ (opcode i ≡ code)) → left_out code ≡ None →
+    Fails (Any Instruction) StopsOpcode bytes (Malformed (length bytes))
+unknown_malformed code is none kept = record {
   reason = (
     omega arith,
     record {
       none = λ rest p. no_opcode code is none p;
-      nowhere = λ place feature s. let out = (plain_stop code plain is place feature s).1 in let never : ⊥ = cc in never;
+      nowhere = λ place feature s. let out = (at_first left_out code is place feature s).1 in let never : ⊥ = cc in never;
     },
   );
 }
 
 pub unknown_unsupported : (code : ℕ) {bytes mid : List ℕ} → bytes ≡ code ∷ mid → (feature : Feature) → left_out code ≡ Some feature →
-    Fails (Any Instruction) StopsInside bytes (Unsupported (length bytes) feature)
+    Fails (Any Instruction) StopsOpcode bytes (Unsupported (length bytes) feature)
 unknown_unsupported code {bytes} {mid} is feature out =
     let here : AtByte left_out 0 feature (code ∷ mid) = (refl, out) in
-    record { reason = record { place = 0; counted = omega arith; stops = (zero, inl (subst (AtByte left_out 0 feature) (sym is) here)) } }
+    record { reason = record { place = 0; counted = omega arith; stops = subst (AtByte left_out 0 feature) (sym is) here } }
 
 -- what was read is an instruction
 pub bare_took : (i : Instr) (code : ℕ) {bytes mid : List ℕ} → IsBare i → opcode i ≡ code → bytes ≡ code ∷ mid → Took (Instruction i) bytes mid
@@ -134,22 +115,22 @@ accessed_behind (access.Store t) at = (refl, refl)
 accessed_behind (access.StoreNarrow part) at = (refl, refl)
 
 -- an index isn't there
-pub index_fails : Apart → (f : IndexForm) (code : ℕ) {bytes mid : List ℕ} → IsPlain code → index_code f ≡ code → bytes ≡ code ∷ mid → (e : Fault) → Fails (Any (Unsigned 32)) Nowhere mid e →
-    Fails (Any Instruction) StopsInside bytes e
-index_fails apart f code {bytes} {mid} plain same is e g =
+pub index_fails : Apart → (f : IndexForm) (code : ℕ) {bytes mid : List ℕ} → index_code f ≡ code → bytes ≡ code ∷ mid → (e : Fault) → Fails (Any (Unsigned 32)) Nowhere mid e →
+    Fails (Any Instruction) StopsOpcode bytes e
+index_fails apart f code {bytes} {mid} same is e g =
     let j = indexed f 0 in
     let known = indexed_behind f 0 in
     let one : opcode j ≡ code = known.1 ∙ same in
-    plain_fails apart j (subst IsPlain (sym one) plain) (is ∙ ap (λ b. b ∷ mid) (sym one)) e (subst (λ k. Fails (behind k) Nowhere mid e) (sym known.0) g)
+    plain_fails apart j (is ∙ ap (λ b. b ∷ mid) (sym one)) e (subst (λ k. Fails (behind k) Nowhere mid e) (sym known.0) g)
 
 -- a memory argument isn't there
-pub access_fails : Apart → (f : AccessForm) (code : ℕ) {bytes mid : List ℕ} → IsPlain code → access_code f ≡ code → bytes ≡ code ∷ mid → (e : Fault) → Fails (Any MemoryArgument) Nowhere mid e →
-    Fails (Any Instruction) StopsInside bytes e
-access_fails apart f code {bytes} {mid} plain same is e g =
+pub access_fails : Apart → (f : AccessForm) (code : ℕ) {bytes mid : List ℕ} → access_code f ≡ code → bytes ≡ code ∷ mid → (e : Fault) → Fails (Any MemoryArgument) Nowhere mid e →
+    Fails (Any Instruction) StopsOpcode bytes e
+access_fails apart f code {bytes} {mid} same is e g =
     let j = accessed f (record { align = 0; offset = 0 }) in
     let known = accessed_behind f (record { align = 0; offset = 0 }) in
     let one : opcode j ≡ code = known.1 ∙ same in
-    plain_fails apart j (subst IsPlain (sym one) plain) (is ∙ ap (λ b. b ∷ mid) (sym one)) e (subst (λ k. Fails (behind k) Nowhere mid e) (sym known.0) g)
+    plain_fails apart j (is ∙ ap (λ b. b ∷ mid) (sym one)) e (subst (λ k. Fails (behind k) Nowhere mid e) (sym known.0) g)
 
 -- memory arguments
 argument_parts : (front : List ℕ) → Any MemoryArgument front → (Any (Unsigned 32) ⊳ Any (Unsigned 32)) front
@@ -169,27 +150,27 @@ pub indices_fails : {bytes : List ℕ} → (e : Fault) → Fails (Any (Vector (U
 indices_fails e f = fails_map (λ front p. p) (λ place feature t. t.1.stops.stops.stops) (λ place feature n. absurd n) e f
 
 -- a table of branches whose labels, or whose last one, isn't there
-pub labels_fails : Apart → {bytes mid : List ℕ} → bytes ≡ 0x0E ∷ mid → (e : Fault) → Fails (Any (Vector (Unsigned 32))) (InVector (Unsigned 32) IsAnything Nowhere) mid e → Fails (Any Instruction) StopsInside bytes e
-labels_fails apart is e f = plain_fails apart (BrTable [] 0) (inr (omega arith)) is e (plain_first (Any (Unsigned 32)) e (indices_fails e f))
+pub labels_fails : Apart → {bytes mid : List ℕ} → bytes ≡ 0x0E ∷ mid → (e : Fault) → Fails (Any (Vector (Unsigned 32))) (InVector (Unsigned 32) IsAnything Nowhere) mid e → Fails (Any Instruction) StopsOpcode bytes e
+labels_fails apart is e f = plain_fails apart (BrTable [] 0) is e (plain_first (Any (Unsigned 32)) e (indices_fails e f))
 
 pub label_fails : Apart → OneForm (Unsigned 32) → {bytes mid rest : List ℕ} → bytes ≡ 0x0E ∷ mid → (labels : List ℕ) → Took (Vector (Unsigned 32) labels) mid rest → (e : Fault) →
-    Fails (Any (Unsigned 32)) Nowhere rest e → Fails (Any Instruction) StopsInside bytes e
-label_fails apart o is labels p e f = plain_fails apart (BrTable [] 0) (inr (omega arith)) is e (plain_second (vector_end o o) (took_any (Vector (Unsigned 32)) labels p) e f)
+    Fails (Any (Unsigned 32)) Nowhere rest e → Fails (Any Instruction) StopsOpcode bytes e
+label_fails apart o is labels p e f = plain_fails apart (BrTable [] 0) is e (plain_second (vector_end o o) (took_any (Vector (Unsigned 32)) labels p) e f)
 
 -- a call of a function of the table, whose type or table isn't there
-pub type_fails : Apart → {bytes mid : List ℕ} → bytes ≡ 0x11 ∷ mid → (e : Fault) → Fails (Any (Unsigned 32)) Nowhere mid e → Fails (Any Instruction) StopsInside bytes e
-type_fails apart is e f = plain_fails apart (CallIndirect 0) (inr (omega arith)) is e (plain_first (Byte 0x00) e f)
+pub type_fails : Apart → {bytes mid : List ℕ} → bytes ≡ 0x11 ∷ mid → (e : Fault) → Fails (Any (Unsigned 32)) Nowhere mid e → Fails (Any Instruction) StopsOpcode bytes e
+type_fails apart is e f = plain_fails apart (CallIndirect 0) is e (plain_first (Byte 0x00) e f)
 
 pub table_fails : Apart → OneForm (Unsigned 32) → {bytes mid rest : List ℕ} → bytes ≡ 0x11 ∷ mid → (ty : ℕ) → Took (Unsigned 32 ty) mid rest → (e : Fault) →
-    Fails (Byte 0x00) Nowhere rest e → Fails (Any Instruction) StopsInside bytes e
-table_fails apart o is ty p e f = plain_fails apart (CallIndirect 0) (inr (omega arith)) is e (plain_second (one_end o) (took_any (Unsigned 32) ty p) e f)
+    Fails (Byte 0x00) Nowhere rest e → Fails (Any Instruction) StopsOpcode bytes e
+table_fails apart o is ty p e f = plain_fails apart (CallIndirect 0) is e (plain_second (one_end o) (took_any (Unsigned 32) ty p) e f)
 
 -- a constant that isn't there
-pub word_fails : Apart → {bytes mid : List ℕ} → bytes ≡ 0x41 ∷ mid → (e : Fault) → Fails (Any (Signed 32)) Nowhere mid e → Fails (Any Instruction) StopsInside bytes e
-word_fails apart is e f = plain_fails apart (I32Const (pos 0)) (inr (omega arith)) is e f
+pub word_fails : Apart → {bytes mid : List ℕ} → bytes ≡ 0x41 ∷ mid → (e : Fault) → Fails (Any (Signed 32)) Nowhere mid e → Fails (Any Instruction) StopsOpcode bytes e
+word_fails apart is e f = plain_fails apart (I32Const (pos 0)) is e f
 
-pub long_fails : Apart → {bytes mid : List ℕ} → bytes ≡ 0x42 ∷ mid → (e : Fault) → Fails (Any (Signed 64)) Nowhere mid e → Fails (Any Instruction) StopsInside bytes e
-long_fails apart is e f = plain_fails apart (I64Const (pos 0)) (inr (omega arith)) is e f
+pub long_fails : Apart → {bytes mid : List ℕ} → bytes ≡ 0x42 ∷ mid → (e : Fault) → Fails (Any (Signed 64)) Nowhere mid e → Fails (Any Instruction) StopsOpcode bytes e
+long_fails apart is e f = plain_fails apart (I64Const (pos 0)) is e f
 
 -- no instruction is of this opcode
 pub no_instruction : (code : ℕ) → IsPlain code → ((i : Instr) → IsBare i → ¬ (opcode i ≡ code)) → ((f : IndexForm) → ¬ (index_code f ≡ code)) → ((f : AccessForm) → ¬ (access_code f ≡ code)) →

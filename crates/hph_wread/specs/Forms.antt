@@ -1,6 +1,7 @@
 -- What stands behind opcodes: section 5.4 of the WebAssembly Core Specification 1.0.
 use Rattle.std.specs.Prelude.{◌<◌, ◌⊎◌, ℕ}
-use Rattle.hph_wasm.specs.Unsupported.{Stop, StopsInstruction}
+use Rattle.hph_wasm.specs.OneWay.{StopsSequence}
+use Rattle.hph_wasm.specs.Unsupported.{Stop, AtByte, left_out, StopsInstruction}
 use Rattle.hph_wasm.specs.Codes.{load_code, narrow_load_code, store_code, narrow_store_code}
 use Rattle.hph_wasm.specs.declared.instr.Instr.{Instr, Unreachable, Nop, Br, BrIf, Return, Call, Drop, Select, LocalGet, LocalSet, LocalTee, GlobalGet, GlobalSet, Load, LoadNarrow, Store, StoreNarrow, Eqz, Compare, Unary, Binary, Wrap, Extend}
 use Rattle.hph_wasm.specs.declared.instr.MemArg.{MemArg}
@@ -70,9 +71,17 @@ IsBare Wrap = Unit {0}
 IsBare (Extend s) = Unit {0}
 IsBare i = IsNumeric i
 
--- where something that is left out stops the reading of an instruction, in any number of blocks
-abbrev pub StopsInside : Stop
-StopsInside at feature bytes = (blocks : ℕ) × StopsInstruction blocks at feature bytes
+-- an opcode that is left out
+abbrev pub StopsOpcode : Stop
+StopsOpcode = AtByte left_out
+
+-- where something that is left out stops the reading of an instruction, in any number of blocks, where so many may be open
+abbrev pub StopsInside : ℕ → Stop
+StopsInside room at feature bytes = (blocks : ℕ) × StopsInstruction blocks room at feature bytes
+
+-- and the reading of instructions one behind the other
+abbrev pub StopsBody : ℕ → Stop
+StopsBody room at feature bytes = (blocks : ℕ) × StopsSequence blocks room at feature bytes
 
 -- an opcode that no block begins with
 abbrev pub IsPlain : ℕ → Type 0

@@ -3,16 +3,15 @@
 use Rattle.std.specs.Prelude.{◌≡◌}
 use Rattle.hph_wasm.specs.Grammar.{ResultType}
 use Rattle.hph_wasm.specs.Codes.{opcode, form}
-use Rattle.hph_wasm.specs.InstructionGrammar.{Instruction, Expression}
-use Rattle.hph_wasm.specs.OneWay.{OneForm, OneStop, SequencesAreAlike, SequencesStopOnce, ClosedSequencesDontStop}
-use Rattle.hph_wasm.specs.Unsupported.{IsAnything, StopsExpression}
+use Rattle.hph_wasm.specs.InstructionGrammar.{Instruction}
+use Rattle.hph_wasm.specs.OneWay.{OneForm, SequencesAreAlike, SequencesStopOnce, ClosedSequencesDontStop, ShallowInstructionsDontStop}
 use Rattle.hph_wasm.specs.declared.instr.Instr.{Instr}
 
 pub record InstructionLaws : Type 0 where
   pub apart : (i j : Instr) → opcode i ≡ opcode j → form i ≡ form j
   pub types : OneForm ResultType
   pub instructions : OneForm Instruction
-  pub expressions : OneStop Expression IsAnything StopsExpression
   pub alike : SequencesAreAlike
   pub once : SequencesStopOnce
   pub clear : ClosedSequencesDontStop
+  pub whole : ShallowInstructionsDontStop

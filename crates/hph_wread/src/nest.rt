@@ -1,10 +1,12 @@
 //! Blocks that aren't closed yet (Core Specification 1.0, 5.4.1).
-ghost use Rattle.std.specs.Prelude.{◌≡◌, [], ◌∷◌, ◌++◌, List, ℕ, MatchOption, IfOk, OnOk};
+ghost use Rattle.std.specs.Prelude.{◌≡◌, ◌<◌, ◌≤◌, [], ◌∷◌, ◌++◌, List, ℕ, suc, length, MatchBool, MatchOption, IfOk, OnOk};
 ghost use Rattle.hph_wasm.specs.Grammar.{◌⊳◌, Each};
 ghost use Rattle.hph_wasm.specs.Codes.{end_code};
 ghost use Rattle.hph_wasm.specs.InstructionGrammar.{Instruction, Expression};
 ghost use Rattle.hph_wasm.specs.declared.types.BlockType.{BlockType};
-ghost use Rattle.hph_wread.specs.Nesting.{Heading, Nested, Reached};
+ghost use Rattle.hph_wasm.specs.BlockDepth.{IsShallow, AreShallow};
+ghost use Rattle.hph_wasm.specs.Unsupported.{most_blocks};
+ghost use Rattle.hph_wread.specs.Nesting.{Heading, OpensShallow, StaysShallow, MayOpen, WasOpen, Nested, Reached};
 ghost use Rattle.hph_wread.specs.Reading.{Took};
 ghost use Rattle.hph_wread.specs.declared.forms.BlockForm.TheVariants.{If};
 ghost use Rattle.hph_wread.specs.declared.nest.Frame.{Frame};
@@ -15,6 +17,9 @@ use hph_wasm::{BlockType, Instr};
 use sqlite_items::Items;
 use std::alloc::{AllocError, Global};
 use std::mem;
+
+/// The most blocks, loops and ifs that may be open at once.
+const MOST_BLOCKS: usize = 4096;
 
 /// What stands before the instructions of a block, or of the second branch of an `if`.
 #[derive(Debug, Drop)]
@@ -65,14 +70,23 @@ pub fn into_body(nest: Nest) -> Items<Instr>
 
 /// One more instruction.
 pub fn push_instruction(nest: &mut Nest, instr: Instr) -> Result<(), AllocError>
-    ensures { OnOk result ((whole bytes rest : List ℕ) → Took (Nested nest.old) whole bytes → Took (Instruction instr) bytes rest → Took (Nested nest.new) whole rest) }
+    ensures { OnOk result ((whole bytes rest : List ℕ) → Took (Nested nest.old) whole bytes → Took (Instruction instr) bytes rest → StaysShallow nest.old instr →
+        Took (Nested nest.new) whole rest) }
 {
     nest.body.push(instr)
 }
 
+/// Whether as many blocks are open as may be.
+pub fn is_full(nest: &Nest) -> bool
+    ensures { MatchBool result (most_blocks ≤ length nest.now.around) (length nest.now.around < most_blocks) }
+{
+    nest.around.len() >= MOST_BLOCKS
+}
+
 /// One more block.
 pub fn begin_block(alloc: Global, nest: &mut Nest, opening: Opening) -> Result<(), AllocError>
-    ensures { OnOk result ((whole bytes rest : List ℕ) → Took (Nested nest.old) whole bytes → Took (Heading opening) bytes rest → Took (Nested nest.new) whole rest) }
+    ensures { OnOk result ((whole bytes rest : List ℕ) → Took (Nested nest.old) whole bytes → Took (Heading opening) bytes rest → MayOpen nest.old opening →
+        Took (Nested nest.new) whole rest) }
 {
     let before = mem::replace(&mut nest.body, Items::new(alloc));
     nest.around.push(Frame { before, opening })
@@ -82,7 +96,7 @@ pub fn begin_block(alloc: Global, nest: &mut Nest, opening: Opening) -> Result<(
 pub fn leave(nest: &mut Nest) -> Option<(Opening, Items<Instr>)>
     ensures { MatchOption result
         ((nest.old.around ≡ []) × (nest.new ≡ nest.old))
-        (λ r. (whole rest : List ℕ) → Took (Nested nest.old) whole rest → (at : List ℕ) × Took (Nested nest.new) whole at × Took (Heading r.0 ⊳ Each Instruction r.1) at rest) }
+        (λ r. (whole rest : List ℕ) → Took (Nested nest.old) whole rest → (at : List ℕ) × Took (Nested nest.new) whole at × Took (Heading r.0 ⊳ Each Instruction r.1) at rest × WasOpen nest.new r.0 r.1) }
 {
     let Frame { before, opening } = nest.around.pop()?;
     let body = mem::replace(&mut nest.body, before);
@@ -104,7 +118,8 @@ pub fn end_block(nest: &mut Nest) -> Result<Step, AllocError>
 
 /// The instruction that began so, with the instructions behind that.
 fn finished(opening: Opening, body: Items<Instr>) -> Instr
-    ensures { (bytes mid rest : List ℕ) → Took (Heading opening) bytes mid → Took (Expression body) mid rest → Took (Instruction result) bytes rest }
+    ensures shallow { (room : ℕ) → OpensShallow room opening → AreShallow room body → IsShallow result (suc room) }
+    ensures read { (bytes mid rest : List ℕ) → Took (Heading opening) bytes mid → Took (Expression body) mid rest → Took (Instruction result) bytes rest }
 {
     match opening {
         Opening::Head(form, ty) => headed(form, ty, body),
@@ -114,7 +129,8 @@ fn finished(opening: Opening, body: Items<Instr>) -> Instr
 
 /// The block of this form, without a second branch.
 fn headed(form: BlockForm, ty: BlockType, body: Items<Instr>) -> Instr
-    ensures { (bytes mid rest : List ℕ) → Took (Heading (Head form ty)) bytes mid → Took (Expression body) mid rest → Took (Instruction result) bytes rest }
+    ensures shallow { (room : ℕ) → AreShallow room body → IsShallow result (suc room) }
+    ensures read { (bytes mid rest : List ℕ) → Took (Heading (Head form ty)) bytes mid → Took (Expression body) mid rest → Took (Instruction result) bytes rest }
 {
     match form {
         BlockForm::Block => Instr::Block(ty, body),

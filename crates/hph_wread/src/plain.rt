@@ -4,7 +4,7 @@ ghost use Rattle.hph_wasm.specs.Codes.{opcode};
 ghost use Rattle.hph_wasm.specs.InstructionGrammar.{MemoryArgument, Instruction};
 ghost use Rattle.hph_wasm.specs.Unsupported.{Any, Nowhere};
 ghost use Rattle.hph_wasm.specs.declared.instr.Instr.{Instr};
-ghost use Rattle.hph_wread.specs.Forms.{StopsInside, IsPlain};
+ghost use Rattle.hph_wread.specs.Forms.{StopsOpcode, IsPlain};
 ghost use Rattle.hph_wread.specs.Reading.{Took, Fails};
 
 use crate::fault::Fault;
@@ -27,7 +27,7 @@ pub fn plain<'a>(
     requires first { bytes.now ≡ code ∷ behind.now }
     requires plain { IsPlain code }
     ensures read { IfOk result (λ r. Took (Instruction r.0) bytes.now r.1.now) }
-    ensures stopped { IfErr result (λ e. Fails (Any Instruction) StopsInside bytes.now e) }
+    ensures stopped { IfErr result (λ e. Fails (Any Instruction) StopsOpcode bytes.now e) }
 {
     opcodes_are_the_tables();
     if let Some(instr) = bare(code) {
@@ -76,7 +76,7 @@ fn branch_table<'a>(
 ) -> Result<(Instr, &'a [u8]), Fault>
     requires { bytes.now ≡ 0x0E ∷ behind.now }
     ensures read { IfOk result (λ r. Took (Instruction r.0) bytes.now r.1.now) }
-    ensures stopped { IfErr result (λ e. Fails (Any Instruction) StopsInside bytes.now e) }
+    ensures stopped { IfErr result (λ e. Fails (Any Instruction) StopsOpcode bytes.now e) }
 {
     opcodes_are_the_tables();
     types_are_read_in_one_way();
@@ -89,7 +89,7 @@ fn branch_table<'a>(
 fn indirect_call<'a>(bytes: &'a [u8], behind: &'a [u8]) -> Result<(Instr, &'a [u8]), Fault>
     requires { bytes.now ≡ 0x11 ∷ behind.now }
     ensures read { IfOk result (λ r. Took (Instruction r.0) bytes.now r.1.now) }
-    ensures stopped { IfErr result (λ e. Fails (Any Instruction) StopsInside bytes.now e) }
+    ensures stopped { IfErr result (λ e. Fails (Any Instruction) StopsOpcode bytes.now e) }
 {
     opcodes_are_the_tables();
     types_are_read_in_one_way();
@@ -102,7 +102,7 @@ fn indirect_call<'a>(bytes: &'a [u8], behind: &'a [u8]) -> Result<(Instr, &'a [u
 fn constant_32<'a>(bytes: &'a [u8], behind: &'a [u8]) -> Result<(Instr, &'a [u8]), Fault>
     requires { bytes.now ≡ 0x41 ∷ behind.now }
     ensures read { IfOk result (λ r. Took (Instruction r.0) bytes.now r.1.now) }
-    ensures stopped { IfErr result (λ e. Fails (Any Instruction) StopsInside bytes.now e) }
+    ensures stopped { IfErr result (λ e. Fails (Any Instruction) StopsOpcode bytes.now e) }
 {
     opcodes_are_the_tables();
     let (value, rest) = signed_32(behind)?;
@@ -113,7 +113,7 @@ fn constant_32<'a>(bytes: &'a [u8], behind: &'a [u8]) -> Result<(Instr, &'a [u8]
 fn constant_64<'a>(bytes: &'a [u8], behind: &'a [u8]) -> Result<(Instr, &'a [u8]), Fault>
     requires { bytes.now ≡ 0x42 ∷ behind.now }
     ensures read { IfOk result (λ r. Took (Instruction r.0) bytes.now r.1.now) }
-    ensures stopped { IfErr result (λ e. Fails (Any Instruction) StopsInside bytes.now e) }
+    ensures stopped { IfErr result (λ e. Fails (Any Instruction) StopsOpcode bytes.now e) }
 {
     opcodes_are_the_tables();
     let (value, rest) = signed_64(behind)?;
@@ -125,7 +125,7 @@ fn unknown(bytes: &[u8], code: u8, behind: &[u8]) -> Fault
     requires first { bytes.now ≡ code ∷ behind.now }
     requires plain { IsPlain code }
     requires none { (i : Instr) → ¬ (opcode i ≡ code) }
-    ensures { Fails (Any Instruction) StopsInside bytes.now result }
+    ensures { Fails (Any Instruction) StopsOpcode bytes.now result }
 {
     match left_out_feature(code) {
         Some(feature) => Fault::Unsupported(bytes.len(), feature),

@@ -19,11 +19,14 @@ returns-clause-table_types c = table_type_stops
 pub returns-clause-global_types : goal.returns-clause-global_types
 returns-clause-global_types c = global_type_stops
 
+pub returns-clause-instructions : goal.returns-clause-instructions
+returns-clause-instructions c = λ blocks room. instruction_apart blocks room
+
 pub returns-clause-sequences : goal.returns-clause-sequences
-returns-clause-sequences c = λ blocks blocks'. sequence_one blocks blocks' (instruction_one blocks blocks')
+returns-clause-sequences c = λ blocks blocks' room. sequence_one blocks blocks' room (instruction_one blocks blocks' room)
 
 pub returns-clause-closed_sequences : goal.returns-clause-closed_sequences
-returns-clause-closed_sequences c = λ blocks xs at feature front rest p closes. sequence_closed blocks (instruction_apart blocks) xs at feature front rest (front ++ rest) p closes refl
+returns-clause-closed_sequences c = λ blocks room xs at feature front rest p shallow closes. sequence_closed blocks room (instruction_apart blocks room) xs at feature front rest (front ++ rest) p shallow closes refl
 
 pub returns-clause-expressions : goal.returns-clause-expressions
 returns-clause-expressions c = expression_stops

@@ -18,7 +18,7 @@ returns-in_err-funcs-clause-stopped c =
     let e = c.in_err-funcs.field-0.0 in
     handed_on _ c.from_residual-in_err-funcs.result e c.from_residual-in_err-funcs.ensures.1
     (element_funcs (c.types_are_read_in_one_way.ensures.unsigned 32) c.instructions_are_read_in_one_way.ensures.expressions c.parts_stop_in_one_place.ensures.expressions
-    c.in_ok-table.table c.in_ok-table.ensures.read c.in_ok-offset.offset c.in_ok-offset.ensures.read e c.in_err-funcs.ensures.stopped)
+    c.in_ok-table.table c.in_ok-table.ensures.read c.in_ok-offset.offset c.in_ok-offset.ensures.fit c.in_ok-offset.ensures.read e c.in_err-funcs.ensures.stopped)
 
 pub returns-clause-read : goal.returns-clause-read
 returns-clause-read c = took_then c.in_ok-table.ensures.read (took_then c.in_ok-offset.ensures.read c.in_ok-funcs.ensures.read)

@@ -21,7 +21,7 @@ returns-in_err-these-clause-stopped c =
     let e = c.in_err-these.field-0.0 in
     handed_on _ c.from_residual-in_err-these.result e c.from_residual-in_err-these.ensures.1
     (data_bytes (c.types_are_read_in_one_way.ensures.unsigned 32) c.instructions_are_read_in_one_way.ensures.expressions c.parts_stop_in_one_place.ensures.expressions
-    c.in_ok-memory.memory c.in_ok-memory.ensures.read c.in_ok-offset.offset c.in_ok-offset.ensures.read e c.in_err-these.ensures.stopped)
+    c.in_ok-memory.memory c.in_ok-memory.ensures.read c.in_ok-offset.offset c.in_ok-offset.ensures.fit c.in_ok-offset.ensures.read e c.in_err-these.ensures.stopped)
 
 pub returns-clause-read : goal.returns-clause-read
 returns-clause-read c =

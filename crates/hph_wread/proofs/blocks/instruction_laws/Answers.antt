@@ -8,8 +8,8 @@ returns c =
       apart = c.opcodes_are_the_tables.ensures.apart;
       types = c.types_are_read_in_one_way.ensures.result_types;
       instructions = instructions.instructions;
-      expressions = stops.expressions;
       alike = instructions.sequences;
       once = stops.sequences;
       clear = stops.closed_sequences;
+      whole = stops.instructions;
     }

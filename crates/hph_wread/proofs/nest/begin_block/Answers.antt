@@ -10,4 +10,4 @@ returns c =
     let frame : Frame = record { before = c.replace-before.result; opening = c.args.opening } in
     let before : frame.before ≡ c.args.nest.now.body = cc c.replace-before.ensures.value in
     let body : after.body ≡ [] = cc (c.replace-before.ensures.after, c.new.ensures) in
-    on_ok c.push.result (λ pushed whole bytes rest p q. nest_deeper c.args.nest.now after frame pushed before body p q) c.push.ensures.ok
+    on_ok c.push.result (λ pushed whole bytes rest p q may. nest_deeper c.args.nest.now after frame pushed before body p q may) c.push.ensures.ok

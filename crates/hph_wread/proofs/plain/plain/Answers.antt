@@ -7,13 +7,13 @@ pub returns-in_err-index-clause-stopped : goal.returns-in_err-index-clause-stopp
 returns-in_err-index-clause-stopped c =
     let e = c.in_err-index.field-0.0 in
     let f = c.in_err-index.ensures.stopped in
-    handed_on _ c.from_residual.result e c.from_residual.ensures.1 (index_fails c.opcodes_are_the_tables.ensures.apart c.in-Some-index_form.form c.args.code c.requires.plain c.in-Some-index_form.ensures c.requires.first e f)
+    handed_on _ c.from_residual.result e c.from_residual.ensures.1 (index_fails c.opcodes_are_the_tables.ensures.apart c.in-Some-index_form.form c.args.code c.in-Some-index_form.ensures c.requires.first e f)
 
 pub returns-in_err-at-clause-stopped : goal.returns-in_err-at-clause-stopped
 returns-in_err-at-clause-stopped c =
     let e = c.in_err-at.field-0.0 in
     let f = c.in_err-at.ensures.stopped in
-    handed_on _ c.from_residual-in_err-at.result e c.from_residual-in_err-at.ensures.1 (access_fails c.opcodes_are_the_tables.ensures.apart c.in-Some-access_form.form c.args.code c.requires.plain c.in-Some-access_form.ensures c.requires.first e f)
+    handed_on _ c.from_residual-in_err-at.result e c.from_residual-in_err-at.ensures.1 (access_fails c.opcodes_are_the_tables.ensures.apart c.in-Some-access_form.form c.args.code c.in-Some-access_form.ensures c.requires.first e f)
 
 pub returns-in-Some-clause-read : goal.returns-in-Some-clause-read
 returns-in-Some-clause-read c = bare_took c.in-Some.instr c.args.code c.in-Some.ensures.0 c.in-Some.ensures.1 c.requires.first
