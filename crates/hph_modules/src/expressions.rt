@@ -1,7 +1,7 @@
 //! Expressions whose bytes were written by hand from the Core Specification 1.0, 5.4.
 use hph_wasm::{Feature, Instr};
 use hph_wread::{Fault, expression};
-use std::alloc::Global;
+use std::alloc::{AllocError, Global};
 use std::test::Fail;
 
 #[test]
@@ -72,16 +72,34 @@ fn tells_where_reading_stops(rt: HostRuntime) {
     assert_eq!(rt; fault_of(alloc, &[0x01]), Some(Fault::Malformed(0)));
 }
 
-#[test]
-fn answers_in_many_open_blocks(rt: HostRuntime) -> Result<(), Fail> {
-    let mut bytes = Vec::new(rt.alloc());
-    for _ in 0..200_000 {
+/// So many blocks that aren't closed.
+fn openers(alloc: Global, blocks: u32) -> Result<Vec<u8>, AllocError> {
+    let mut bytes = Vec::new(alloc);
+    for _ in 0..blocks {
         bytes.push(0x02)?;
         bytes.push(0x40)?;
     }
+    Ok(bytes)
+}
+
+#[test]
+fn answers_in_many_open_blocks(rt: HostRuntime) -> Result<(), Fail> {
+    let alloc = rt.alloc();
+    let as_many_as_may_be = openers(alloc, 4096)?;
     assert_eq!(rt;
-        fault_of(rt.alloc(), bytes.as_slice()),
+        fault_of(alloc, &as_many_as_may_be),
         Some(Fault::Malformed(0))
+    );
+    // The opcode of block 4097 stands behind two bytes for each that is open.
+    let one_more = openers(alloc, 4097)?;
+    assert_eq!(rt;
+        fault_of(alloc, &one_more),
+        Some(Fault::Unsupported(2, Feature::BlockDepth))
+    );
+    let many_more = openers(alloc, 200_000)?;
+    assert_eq!(rt;
+        fault_of(alloc, &many_more),
+        Some(Fault::Unsupported(391_808, Feature::BlockDepth))
     );
     Ok(())
 }

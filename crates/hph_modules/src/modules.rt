@@ -67,11 +67,78 @@ fn a_type_with_a_float_is_unsupported_at_its_byte(rt: HostRuntime) -> Result<(),
     let whole = [0x01, 0x05, 0x01, 0x60, 0x01, 0x7D, 0x00];
     let float = Some(ModuleFault::Unsupported(13, Feature::F32));
     assert_eq!(rt; fault_behind_header(alloc, &whole)?, float);
-    // The size is compared where the section ends.
+    // A size past the end of the file counts what is left.
     assert_eq!(rt;
         fault_behind_header(alloc, &[0x01, 0x7F, 0x01, 0x60, 0x01, 0x7D])?,
         float
     );
+    Ok(())
+}
+
+/// Sections whose content ends before what it has to hold, the offset of that end, and what stands behind it: bytes that would be
+/// left out if they were read.
+const SHORT_SECTIONS: [(&[u8], u32, &[u8]); 7] = [
+    // The first of two bodies has no end, and behind it stands the size of the second, which is the opcode of f32.load.
+    (
+        &[
+            0x01, 0x04, 0x01, 0x60, 0x00, 0x00, 0x03, 0x03, 0x02, 0x00, 0x00, 0x0A, 0x2F, 0x02,
+            0x02, 0x00, 0x01,
+        ],
+        25,
+        &[
+            0x2A, 0x00, 1, 1, 1, 1, 1, 1, 1, 1, 1, 1, 1, 1, 1, 1, 1, 1, 1, 1, 1, 1, 1, 1, 1, 1, 1,
+            1, 1, 1, 1, 1, 1, 1, 1, 1, 1, 1, 1, 1, 1, 1, 0x0B,
+        ],
+    ),
+    // One of two memories, and a custom section of 3,000 bytes, whose size would be the second's pages.
+    (&[0x05, 0x03, 0x02, 0x00, 0x01], 13, &[0x00, 0xB8, 0x17]),
+    // One of two tables, and a custom section that would be the second.
+    (
+        &[0x04, 0x04, 0x02, 0x70, 0x00, 0x01],
+        14,
+        &[0x70, 0x00, 0x80, 0x80, 0x80, 0x01],
+    ),
+    // One of two types.
+    (
+        &[0x01, 0x04, 0x02, 0x60, 0x00, 0x00],
+        14,
+        &[0x60, 0x01, 0x7D, 0x00],
+    ),
+    // A global without its first value.
+    (
+        &[0x06, 0x03, 0x01, 0x7F, 0x00],
+        13,
+        &[0x43, 0x00, 0x00, 0x00, 0x00, 0x0B],
+    ),
+    // A number of pages whose last byte stands behind the section.
+    (&[0x05, 0x03, 0x01, 0x00, 0x81], 12, &[0x08]),
+    // A run of locals whose type stands behind the body.
+    (
+        &[
+            0x01, 0x04, 0x01, 0x60, 0x00, 0x00, 0x03, 0x02, 0x01, 0x00, 0x0A, 0x06, 0x01, 0x02,
+            0x01, 0x01,
+        ],
+        24,
+        &[0x7C, 0x0B],
+    ),
+];
+
+#[test]
+fn nothing_behind_a_size_is_left_out(rt: HostRuntime) -> Result<(), Fail> {
+    let alloc = rt.alloc();
+    for (short, end, behind) in &SHORT_SECTIONS {
+        let mut bytes = Vec::from_slice(alloc, &PRINTS_THREE[..8])?;
+        bytes.extend_from_slice(short)?;
+        bytes.extend_from_slice(behind)?;
+        // a custom section of 3,000 bytes and the memory's
+        bytes.resize(bytes.len() + 3000, 0x2A)?;
+        if bytes.len() < 5000 {
+            assert!(rt;
+                fault_of(alloc, &bytes) == Some(ModuleFault::Malformed(*end)),
+                "at {end}"
+            );
+        }
+    }
     Ok(())
 }
 
