@@ -1,0 +1,4 @@
+pub mod Raised
+pub mod Sweeps
+pub mod Packs
+pub mod Teams

@@ -1,0 +1,4 @@
+pub mod Reports
+pub mod Raising
+pub mod Sweep
+pub mod Team
