@@ -36,9 +36,6 @@ module _ {A : Type 0} where
   pub in_whole : (xs : List A) (i : ℕ) (x : A) → length xs ≤ i → In x xs → In x (take i xs)
   in_whole xs i x h k = subst (In x) (sym (take_all i xs h)) k
 
-  pub whole_in : (xs : List A) (i : ℕ) (x : A) → length xs ≤ i → In x (take i xs) → In x xs
-  whole_in xs i x h k = subst (In x) (take_all i xs h) k
-
   -- What a loop reads at a place stands in the list.
   pub in_item : (xs : List A) (i : ℕ) (x : A) → i < length xs → x ≡ get_or xs i x → In x xs
   in_item xs i x within is = subst (λ y. In y xs) (sym is) (in_get xs i x within)

@@ -5,7 +5,6 @@ use Rattle.std.proofs.lemmas.Bool.{cases_Bool, cases_eq, cases_lt}
 use Rattle.std.proofs.lemmas.List.{get_or-set_same, get_or-set_other, get_or-replicate, get_or_past, get_or_default, length-replicate}
 use Rattle.std.proofs.lemmas.List.Sums.{sum_by-set, sum_by-le}
 use Rattle.std.proofs.Math.Nat.{mul-le-mul_right}
-use Rattle.std.proofs.Math.ListN.{length-set}
 use Rattle.hph_type.specs.Types.{PhpType, none}
 use Rattle.hph_type.specs.Classes.{height}
 use Rattle.hph_type.specs.Order.{Leq, IsOf, join}
@@ -302,13 +301,6 @@ module _ (sys : Shape) (lawful : Lawful sys) where
       subst (λ t. AreRaised one pairs i first first_waiting t waiting') (sym e)
       (subst (AreRaised one pairs i first first_waiting typing) (sym f) was)
 
-  -- A scope that waits is one of the system.
-  pub taken-in : (typing : List PhpType) (waiting : List Bool) (one : ℕ) → Runs sys typing waiting
-      → waits waiting one ≡ true → one < sys.scopes
-  taken-in typing waiting one run now =
-      let inside = waits-in waiting one now in
-      omega (arith, inside, run.len)
-
   -- After the last pair the scope is met or waits.
   pub raised-all : (one : ℕ) (pairs : List (ℕ × PhpType)) (i : ℕ) (first typing : List PhpType)
       (first_waiting waiting : List Bool) → length pairs ≤ i
@@ -326,20 +318,7 @@ module _ (sys : Shape) (lawful : Lawful sys) where
     ];
   }
 
-  -- A scope is taken that waited.
-  pub taken : (typing : List PhpType) (waiting new : List Bool) (one : ℕ) → new ≡ slice_set waiting one false
-      → Runs sys typing waiting → RunsBut sys one typing new
-  taken typing waiting new one is was =
-      subst (RunsBut sys one typing) (sym is) record {
-        low = was.low;
-        len = length-set waiting one false ∙ was.len;
-        others = λ scope within other. elim (was.each scope within) [
-          | inl now ↦ inl (get_or-set_other waiting one scope false false other ∙ now)
-          | inr met ↦ inr met
-        ];
-      }
-
-  -- One turn fewer is left then.
+  -- Where a scope is taken that waited, fewer turns are left.
   pub taken-left : (typing : List PhpType) (waiting new : List Bool) (one : ℕ) → new ≡ slice_set waiting one false
       → waits waiting one ≡ true → left sys typing new < left sys typing waiting
   unfolding left

@@ -4,7 +4,6 @@ use Rattle.std.specs.Prelude.{◌==◌, slice_set}
 use Rattle.std.proofs.lemmas.Bool.{cases_eq, cases_lt, eq-eqb, ne_eqb}
 use Rattle.std.proofs.lemmas.List.{get_or-set_same, get_or-set_other, get_or_past, get_or_default, get_or_append_left, length-append}
 use Rattle.std.proofs.Math.Seq.{get_or-append_seam}
-use Rattle.std.proofs.Math.ListN.{length-set}
 use Rattle.hph_plain.specs.Waiting.{waits, one_if, times, StandOnce, Wakes}
 use Rattle.hph_plain.proofs.Members.{in_more, more_in}
 
@@ -141,45 +140,6 @@ filled-more n flags stack was =
       ];
     }
 
--- One more scope waits.
-pub wakes-set : (flags : List Bool) (scope : ℕ) → scope < length flags
-    → Wakes (scope ∷ []) flags (slice_set flags scope true)
-wakes-set flags scope within = record {
-  len = length-set flags scope true;
-  each = λ k. (
-    λ is. elim (cases_eq k scope) [
-      | inl same ↦ inr (inl same)
-      | inr other ↦ inl (sym (waits-other flags scope k true other) ∙ is)
-    ],
-    λ was. elim (cases_eq k scope) [
-      | inl same ↦ waits-here flags scope k true within same
-      | inr other ↦ elim was [
-        | inl is ↦ waits-other flags scope k true other ∙ is
-        | inr stands ↦ elim stands [ inl same ↦ absurd (other same) | inr none ↦ absurd none ]
-      ]
-    ],
-  );
-}
-
--- It waited already.
-pub wakes-same : (flags : List Bool) (scope : ℕ) → waits flags scope ≡ true → Wakes (scope ∷ []) flags flags
-wakes-same flags scope is = record {
-  len = refl;
-  each = λ k. (
-    λ now. inl now,
-    λ was. elim was [
-      | inl now ↦ now
-      | inr stands ↦ elim stands [ inl same ↦ ap (waits flags) same ∙ is | inr none ↦ absurd none ]
-    ],
-  );
-}
-
-pub wakes-none : (flags : List Bool) → Wakes [] flags flags
-wakes-none flags = record {
-  len = refl;
-  each = λ k. (λ now. inl now, λ was. elim was [ inl now ↦ now | inr none ↦ absurd none ]);
-}
-
 -- One reader more.
 pub wakes-more : (readers : List ℕ) (i r : ℕ) (old mid new : List Bool) → i < length readers → r ≡ get_or readers i 0
     → Wakes (take i readers) old mid → Wakes (r ∷ []) mid new → Wakes (take (i + 1) readers) old new
@@ -205,11 +165,6 @@ wakes-more readers i r old mid new within is before after = record {
     ]),
   );
 }
-
--- All readers.
-pub wakes-all : (readers seen : List ℕ) (old new : List Bool) → seen ≡ readers → Wakes seen old new
-    → Wakes readers old new
-wakes-all readers seen old new same wakes = subst (λ rs. Wakes rs old new) same wakes
 
 -- what was read of a flag is whether the scope waits
 pub read-waits : (flags : List Bool) (scope : ℕ) (read : Bool) → scope < length flags → read ≡ get_or flags scope read
