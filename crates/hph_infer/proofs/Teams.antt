@@ -1,14 +1,20 @@
 -- The seats of a team that has come back are all seats of the table.
-use Rattle.std.proofs.Common.{◌≡◌, ℕ, zero, suc, ◌<◌, List, [], ◌∷◌, ◌++◌, map, length, get_or, take, drop, Result, Ok, sym, refl, ap, subst, ◌∙◌, arith, OnOk}
+use Rattle.std.proofs.Common.{inl, inr, ◌≡◌, ℕ, zero, suc, ◌<◌, List, [], ◌∷◌, ◌++◌, map, length, get_or, take, drop, Result, Ok, sym, refl, ap, subst, ◌∙◌, arith, OnOk}
 use Rattle.std.specs.declared.alloc.AllocError.{AllocError}
+use Rattle.hph_sys.specs.Typings.{In}
 use Rattle.hph_core.specs.declared.view.View.{View}
 use Rattle.hph_core.specs.State.{spent}
 use Rattle.hph_core.specs.Conditions.{IsIdle}
 use Rattle.hph_table.specs.Ids.{TableId}
-use Rattle.hph_table.specs.Seats.{AreSeated, AreAll, new_view}
+use Rattle.hph_table.specs.Seats.{AreSeated, AreAll, new_view, views_of}
 use Rattle.hph_infer.specs.declared.threads.Worker.{Worker}
 use Rattle.hph_infer.specs.declared.turns.Report.{Report}
 use Rattle.hph_infer.specs.Team.{seat_of, Packed, Unpacked, IsBack, IsReady}
+use Rattle.std.specs.Prelude.{IfOk}
+use Rattle.hph_core.specs.declared.view.Finding.TheVariants.{Pending}
+use Rattle.hph_infer.specs.declared.turns.Left.{Left}
+use Rattle.hph_infer.specs.declared.turns.Left.TheVariants.{Zero}
+use Rattle.hph_infer.specs.Reports.{IsReport, FoundZero}
 use Rattle.hph_turns.proofs.Rounds.{get_in, in_at}
 
 abbrev P : Type 0
@@ -36,6 +42,11 @@ ok_at : (reports : List Report) (k : ℕ) (d : Result Report AllocError) → k <
 ok_at [] k d h r e = absurd (omega arith)
 ok_at (x ∷ xs) zero d h r e = (x, e)
 ok_at (x ∷ xs) (suc k) d h r e = ok_at xs k d (omega arith) r e
+
+map_in : {A B : Type 0} → (f : A → B) (x : A) (xs : List A) → In x xs → In (f x) (map f xs)
+map_in f x [] h = absurd h
+map_in f x (y ∷ ys) (inl e) = inl (ap f e)
+map_in f x (y ∷ ys) (inr h) = inr (map_in f x ys h)
 
 pub some_of : {A : Type 0} → (xs : List A) → 0 < length xs → A
 some_of [] h = absurd (omega arith)
@@ -96,6 +107,22 @@ module _ {S : Type 0} (id : TableId) (n : ℕ) (seats : List P) (before : List (
 
     pub are_all : 0 < n → AreAll id n seats'
     are_all h = are_all_by (some_of before (let c = count in omega arith))
+
+    pub found_zero : (report : Report) → In report reports → report.left ≡ Zero → (v : View) × In v (views_of seats') × In (Pending 0) v.findings
+    found_zero report i z =
+        let w = in_at reports report i in
+        let k : ℕ = w.0 in
+        let l : k < n = (let a = all_reports in let b = w.1 in omega arith) in
+        let d : Worker S = some_of before (let c = count in omega arith) in
+        let e : (get_or after k d).report ≡ get_or (map Ok reports) k d.report = sym (get_map (λ (x : Worker S). x.report) after k d) ∙ ap (λ (x : List (Result Report AllocError)). get_or x k d.report) out.reports_are in
+        let r : (get_or after k d).report ≡ Ok report = e ∙ (any_default (map Ok reports) k d.report (Ok report) (subst (λ (m : ℕ). k < m) (sym (length_map Ok reports)) w.1) ∙ (get_map Ok reports k report ∙ ap Ok (w.2 report))) in
+        let b = back k d (let c = count in omega arith) in
+        let rep : IsReport budget (get_or after k d).seat.1 report = subst (λ (y : Result Report AllocError). IfOk y (λ (x : Report). IsReport budget (get_or after k d).seat.1 x)) r b.is_report in
+        let pend : In (Pending 0) (get_or after k d).seat.1.findings = subst (λ (x : Left). FoundZero x (get_or after k d).seat.1) z rep.left in
+        let e2 : get_or seats' k (seat_of d) ≡ (get_or after k d).seat = ap (λ (x : List P). get_or x k (seat_of d)) out.seats_are ∙ get_map seat_of after k d in
+        let l2 : k < length seats' = (let a : length seats' ≡ length after = ap length out.seats_are ∙ length_map seat_of after in let c = count in omega arith) in
+        let mine : In (get_or seats' k (seat_of d)).1 (views_of seats') = map_in (λ (p : P). p.1) (get_or seats' k (seat_of d)) seats' (get_in seats' k (seat_of d) l2) in
+        ((get_or after k d).seat.1, subst (λ (q : P). In q.1 (views_of seats')) e2 mine, pend)
 
 pub whole : {A : Type 0} → (xs ys : List A) (n : ℕ) → length xs ≡ length ys → n ≡ length ys → take n (xs ++ drop (length xs) ys) ≡ xs
 whole [] [] n h e = ap (λ (k : ℕ). take k []) e

@@ -1,5 +1,5 @@
 -- What a report tells. Source: this project's own.
-use Rattle.std.specs.Prelude.{◌≡◌, ◌≤◌, ℕ, length}
+use Rattle.std.specs.Prelude.{◌≡◌, ◌≤◌, ℕ, List, length}
 use Rattle.hph_sys.specs.Typings.{In}
 use Rattle.hph_core.specs.declared.view.View.{View}
 use Rattle.hph_core.specs.declared.view.Finding.TheVariants.{Pending}
@@ -21,3 +21,7 @@ HasTurns Budget budget turns = turns ≡ budget
 pub record IsReport (budget : ℕ) (after : View) (report : Report) : Type 0 where
   pub left : FoundZero report.left after
   pub turns : HasTurns report.left budget (length report.turns.items)
+
+-- Some worker left at zero.
+abbrev pub LeftAtZero : List Report → Type 0
+LeftAtZero reports = (report : Report) × In report reports × (report.left ≡ Zero)

@@ -1,6 +1,7 @@
 //! The least typing.
 ghost use Rattle.std.specs.Prelude.{◌≡◌, ◌<◌, ◌≤◌, IfOk, length};
 ghost use Rattle.hph_sys.specs.Least.{IsLeast};
+ghost use Rattle.hph_infer.specs.Reports.{LeftAtZero};
 
 use crate::rounds::sweep;
 use crate::threads::{pack, team, unpack};
@@ -36,6 +37,7 @@ pub fn infer<R: Threads + Sync, S: System + Sync, G: Gate + Sync>(
     requires workers { (0 < workers) × (workers ≤ 64) }
     ensures least { IfOk result (λ r. IsLeast (S.shape system.now) r.typing.items) }
     ensures reports { IfOk result (λ r. length r.reports.items ≡ workers) }
+    ensures zero { IfOk result (λ r. LeftAtZero r.reports.items → r.sweep_raises ≡ 0) }
 {
     let (shared, seats) = Shared::new(alloc, system, workers)?;
     let mut members = pack(alloc, seats)?;
