@@ -16,6 +16,8 @@ pub enum Arg {
     /// An array of the numbers of these keys, at the keys.
     Keys(&'static [Arg]),
     Object,
+    /// A list of one object.
+    Objects,
 }
 
 fn text(alloc: Global, text: &str) -> Result<Value, AllocError> {
@@ -39,6 +41,14 @@ fn texts(alloc: Global, texts: &[&str]) -> Result<Value, AllocError> {
         if list.append(text(alloc, bytes)?).is_err() {
             return Err(AllocError);
         }
+    }
+    Value::array(alloc, list)
+}
+
+fn objects(alloc: Global) -> Result<Value, AllocError> {
+    let mut list = OrdMap::new(alloc);
+    if list.append(Value::Obj(7)).is_err() {
+        return Err(AllocError);
     }
     Value::array(alloc, list)
 }
@@ -74,6 +84,7 @@ fn value(alloc: Global, arg: &Arg) -> Result<Value, AllocError> {
         Arg::Texts(bytes) => texts(alloc, bytes),
         Arg::Keys(keys) => keyed(alloc, keys),
         Arg::Object => Ok(Value::Obj(7)),
+        Arg::Objects => objects(alloc),
     }
 }
 

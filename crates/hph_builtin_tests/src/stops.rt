@@ -1,5 +1,5 @@
 //! Calls that end in a fatal error.
-use crate::arguments::Arg::{Bool, Int, Ints, Null, Object, Text, Texts};
+use crate::arguments::Arg::{Bool, Int, Ints, Null, Object, Objects, Text, Texts};
 use crate::arguments::{Arg, values};
 use hph_builtin::{HostStop, call};
 use hph_php::{Builtin, Fatal};
@@ -83,6 +83,7 @@ const OWN: &[Row] = &rows! {
     Trim(Object) => BadArgument;
     Implode(Text(","), Text("a")) => BadArgument;
     Implode(Texts(&[]), Texts(&[])) => BadArgument;
+    Implode(Text(","), Objects) => ObjectUse;
     Explode(Text(""), Text("abc")) => BadArgument;
     ArrayKeys(Null) => BadArgument;
     ArrayValues(Object) => BadArgument;
