@@ -1,4 +1,4 @@
--- What is decided of modules and their parts: each is valid, or it isn't and then has a first fault.
+-- What is decided of modules: that they are valid and run on a host, or what comes first that is wrong.
 use Rattle.std.specs.Prelude.{◌⊎◌, ℕ}
 use Rattle.hph_wasm.specs.declared.types.FuncType.{FuncType}
 use Rattle.hph_wasm.specs.declared.module.Func.{Func}
@@ -6,6 +6,8 @@ use Rattle.hph_wasm.specs.declared.module.Module.{Module}
 use Rattle.hph_wasm.specs.Validity.{IsBody}
 use Rattle.hph_wasm.specs.ModuleValidity.{IsValidOutside, IsValid}
 use Rattle.hph_wasm.specs.Faults.{IsFirstFault, IsFirstInvalid}
+use Rattle.hph_wasm.specs.Configuration.{Host}
+use Rattle.hph_wasm.specs.Run.{Obstacle, IsFirstObstacle, IsReady}
 
 -- What stands outside code is valid, or isn't.
 abbrev pub OutsideIsDecided : Module → Type 0
@@ -19,3 +21,7 @@ BodyIsDecided m ty func = IsBody m ty func ⊎ ((k : ℕ) × IsFirstFault m ty f
 -- code come first.
 abbrev pub ModuleIsDecided : Module → Type 0
 ModuleIsDecided m = IsValid m ⊎ ((f : ℕ) × (k : ℕ) × IsFirstInvalid m f k)
+
+-- A module runs on a host, or this is the first that keeps it from running: an import, `main`, or a segment.
+abbrev pub ReadinessIsDecided : {H E : Type 0} → Host H E → Module → Type 0
+ReadinessIsDecided host m = IsReady host m ⊎ ((obstacle : Obstacle) × IsFirstObstacle host m obstacle)
