@@ -1,3 +1,4 @@
 pub mod Steps
 pub mod Rows
 pub mod Joins
+pub mod Values

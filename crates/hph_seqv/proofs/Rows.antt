@@ -36,7 +36,7 @@ pub import_call : {H E : Type 0} (host : Host H E) (m : Module) (f type number :
 import_call host m f type number import ty passing rest values at p q r e = rw (p, q, e, r) refl
 
 module _ (s : Setup) where
-  abbrev numbers : List Word → List ℕ
+  abbrev pub numbers : List Word → List ℕ
   numbers words = map number_of words
 
   pub row_call : (row : Row) (passing : Arguments) (rest : List Instr) (values : List Word) (k : Around) (scratch : Word) (p : Places)
