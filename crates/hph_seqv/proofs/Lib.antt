@@ -2,3 +2,4 @@ pub mod Steps
 pub mod Rows
 pub mod Joins
 pub mod Values
+pub mod Variables
