@@ -3,3 +3,4 @@ pub mod Rows
 pub mod Joins
 pub mod Values
 pub mod Variables
+pub mod Choices
