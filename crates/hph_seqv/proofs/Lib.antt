@@ -4,3 +4,4 @@ pub mod Joins
 pub mod Values
 pub mod Variables
 pub mod Choices
+pub mod Proved

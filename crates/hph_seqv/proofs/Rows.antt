@@ -1,9 +1,8 @@
 -- A call of a row of the host, in two reductions, and what it answers.
-use Rattle.std.proofs.Common.{◌≡◌, ℕ, ◌+◌, ◌≤◌, List, [], ◌∷◌, ◌++◌, map, refl, sym, ap, ◌∙◌, subst, arith, Option, Some, None, append_assoc}
-use Rattle.std.specs.Prelude.{slice_get, Result, Ok, Err}
+use Rattle.std.proofs.Common.{◌≡◌, ℕ, ◌+◌, ◌≤◌, List, [], ◌∷◌, ◌++◌, map, refl, sym, ap, ◌∙◌, subst, arith, Some}
+use Rattle.std.specs.Prelude.{slice_get}
 use Rattle.hph_wasm.specs.declared.instr.Instr.{Instr, Call}
 use Rattle.hph_wasm.specs.declared.value.Value.{Value as Word}
-use Rattle.hph_wasm.specs.declared.types.ValType.{ValType}
 use Rattle.hph_wasm.specs.declared.types.FuncType.{FuncType}
 use Rattle.hph_wasm.specs.declared.module.Import.{Import}
 use Rattle.hph_wasm.specs.declared.module.Module.{Module}
@@ -11,19 +10,18 @@ use Rattle.hph_wasm.specs.Choice.{if_some}
 use Rattle.hph_wasm.specs.Functions.{functions, Imported}
 use Rattle.hph_wasm.specs.Values.{number_of}
 use Rattle.hph_wasm.specs.Outcome.{Stopped}
-use Rattle.hph_wasm.specs.Configuration.{Goes, Stops, Host, Setting, Configuration, Running, Stuck, Ended}
-use Rattle.hph_wasm.specs.Reduction.{Arguments, arguments, results, after_reply, reply_of, reduce}
+use Rattle.hph_wasm.specs.Configuration.{Host, Setting, Running, Stuck, Ended}
+use Rattle.hph_wasm.specs.Reduction.{Arguments, arguments, after_reply, reply_of, reduce}
 use Rattle.hph_wasm.specs.Run.{outcome_of}
-use Rattle.hph_php.specs.declared.fatal.Fatal.{Fatal}
-use Rattle.hph_php.specs.Values.{Value}
 use Rattle.hph_php.specs.State.{State}
-use Rattle.hph_php.specs.Answers.{Means, Answer, Gets, Ends, More, settle}
+use Rattle.hph_php.specs.Answers.{Means, Answer, Gets, Ends, More}
 use Rattle.hph_effects.specs.declared.row.Row.{Row}
 use Rattle.hph_effects.specs.Rows.{row_number}
-use Rattle.hph_effects.specs.Hosts.{Item, a_value, HostState, HostStatus, Serving, Halted, Replied, settled, on_ok}
-use Rattle.hph_effects.specs.Effects.{php1, effect, call_row}
+use Rattle.hph_effects.specs.Hosts.{Item, HostStatus, Halted}
+use Rattle.hph_effects.specs.Effects.{php1, call_row}
 use Rattle.hph_effect_laws.proofs.Tables.{calls_go_by_row}
-use Rattle.hph_seqv.specs.Simulates.{Conf, Follows, Setup, IsRow, type_of, call, Around, Places, Fits, host_of, setting, Stands, Runs}
+use Rattle.hph_seqv.specs.Simulates.{Conf, Follows, Setup, type_of, call, Situation, Around, Places, Fits, host_of, setting, Stands, Runs}
+use Rattle.hph_seqv.specs.Replies.{Replies}
 use Rattle.hph_seqv.proofs.Steps.{reduce_on, got}
 
 -- on any host
@@ -51,26 +49,12 @@ module _ (s : Setup) where
       ∙ ap (λ reply. after_reply php1 s.m reply (type_of row) passing.below rest at (Stuck (call row ∷ rest) at))
       (calls_go_by_row row (host_of k p stack st) (numbers passing.passed) s.memory)
 
-  -- A reply of the host that leaves these values on wasm's stack and these items on its own, with the program's core.
-  pub record Gives (k : Around) (types : List ValType) (words : List Word) (stack : List Item) (st : State) (reply : Replied) : Type 0 where
-    pub places : Places
-    pub result : Option ℕ
-    pub fits : Fits s k.situation places st.frames st.globals st.core.heap
-    pub is : reply ≡ Goes (Serving (host_of k places stack st)) result
-    pub typed : results types result ≡ Some words
-
-  -- A reply is what an answer says that takes no unit.
-  abbrev pub Replies : {A : Type 0} → Around → List ValType → (A → List Word) → (A → List Item) → ℕ → Replied → Answer A → Type 0
-  Replies k types leaves gives n reply (Gets a n' st) = (n' ≡ n) × Gives k types (leaves a) (gives a ++ k.stack) st reply
-  Replies k types leaves gives n reply (Ends stop st) = reply ≡ Stops (Halted st.core.out stop) stop
-  Replies k types leaves gives n reply (More st) = ⊥
-
   -- Where the module comes to a call of a row, it goes on to what the row replies.
   pub row_follows : {A : Type 0} (k : Around) (row : Row) (leaves : A → List Word) (gives : A → List Item) (passed values : List Word)
       (i b n : ℕ) (c : Conf) (scratch : Word) (p : Places) (stack : List Item) (st : State) (x : Answer A) → i + 2 ≤ b →
       reduce php1 s.m i c ≡ Running (call row ∷ k.rest) values (setting s k scratch p stack st) →
       arguments (type_of row).params values ≡ Some (record { passed = passed; below = k.values }) →
-      Replies k (type_of row).results leaves gives n (call_row row (host_of k p stack st) (numbers passed) s.memory) x →
+      Replies s k (type_of row).results leaves gives n (call_row row (host_of k p stack st) (numbers passed) s.memory) x →
       Follows s.m s.u (λ a st c. Stands s k [] (leaves a) (gives a ++ k.stack) st c) b n c x
   row_follows k row leaves gives passed values i b n c scratch p stack st (Gets a n' st') le e f r =
       let at : Setting HostStatus = setting s k scratch p stack st in
@@ -95,7 +79,7 @@ module _ (s : Setup) where
       )
   row_follows k row leaves gives passed values i b n c scratch p stack st (More st') le e f r = absurd r
 
-  module _ (depth : ℕ) where
+  module _ (depth : ℕ) (Where : Situation → Type 0) where
     -- The code of a row's call behind instructions that put its arguments on the stack, from what the row replies.
     pub by_row : {A : Type 0} (row : Row) (front : List Instr) (i : ℕ) (values passed : List Word) (items : List Item)
         (leaves : A → List Word) (gives : A → List Item) (mean : Means A) →
@@ -103,12 +87,12 @@ module _ (s : Setup) where
         (words : List Word) × (reduce php1 s.m i (Running ((front ++ call row ∷ []) ++ rest) (values ++ below) at) ≡ Running (call row ∷ rest) words at)
         × (arguments (type_of row).params words ≡ Some (record { passed = passed; below = below }))) →
         ((n : ℕ) (st : State) (k : Around) (p : Places) → Fits s k.situation p st.frames st.globals st.core.heap →
-        Replies k (type_of row).results leaves gives n (call_row row (host_of k p (items ++ k.stack) st) (numbers passed) s.memory) (mean n st)) →
-        Runs s depth values items leaves gives (i + 2) (front ++ call row ∷ []) mean
+        Replies s k (type_of row).results leaves gives n (call_row row (host_of k p (items ++ k.stack) st) (numbers passed) s.memory) (mean n st)) →
+        Runs s depth Where values items leaves gives (i + 2) (front ++ call row ∷ []) mean
     by_row row front i values passed items leaves gives mean pushes replies = record {
-      by = λ n le st k c r.
+      by = λ n le st k c w r.
           let at : Setting HostStatus = setting s k r.scratch r.places (items ++ k.stack) st in
-          let w = pushes k.rest k.values at in
-          row_follows k row leaves gives passed w.0 i (i + 2) n c r.scratch r.places (items ++ k.stack) st (mean n st) (omega arith)
-          (ap (reduce php1 s.m i) r.is ∙ w.1) w.2 (replies n st k r.places r.fits);
+          let pushed = pushes k.rest k.values at in
+          row_follows k row leaves gives passed pushed.0 i (i + 2) n c r.scratch r.places (items ++ k.stack) st (mean n st) (omega arith)
+          (ap (reduce php1 s.m i) r.is ∙ pushed.1) pushed.2 (replies n st k r.places r.fits);
     }

@@ -1,5 +1,5 @@
 -- Reductions one after another.
-use Rattle.std.proofs.Common.{◌≡◌, ℕ, zero, suc, ◌+◌, ◌*◌, ◌≤◌, refl, sym, ap, ◌∙◌, subst, arith}
+use Rattle.std.proofs.Common.{◌≡◌, ℕ, suc, ◌+◌, ◌≤◌, refl, sym, ap, ◌∙◌, subst, arith}
 use Rattle.hph_wasm.specs.declared.module.Module.{Module}
 use Rattle.hph_wasm.specs.Reduction.{reduce}
 use Rattle.hph_wasm.specs.Run.{outcome_of}
@@ -7,7 +7,7 @@ use Rattle.hph_wasm.proofs.Runs.{reduce-add}
 use Rattle.hph_php.specs.State.{State}
 use Rattle.hph_php.specs.Answers.{Answer, Gets, Ends, More, Means, proceed}
 use Rattle.hph_effects.specs.Effects.{php1}
-use Rattle.hph_seqv.specs.Simulates.{Conf, Follows, Spent}
+use Rattle.hph_seqv.specs.Simulates.{Conf, Follows}
 
 module _ (m : Module) where
   pub reduce_on : (i j : ℕ) (c c1 c2 : Conf) → reduce php1 m i c ≡ c1 → reduce php1 m j c1 ≡ c2 → reduce php1 m (i + j) c ≡ c2

@@ -1,26 +1,24 @@
 -- Variables, which the program has by names and the host by slots: a change of one is the same change of the other.
-use Rattle.std.proofs.Common.{◌≡◌, ◌≢◌, ℕ, zero, suc, ◌+◌, ◌≤◌, List, [], ◌∷◌, ◌++◌, map, refl, sym, ap, ◌∙◌, subst, arith, Option, Some, None}
-use Rattle.std.specs.Prelude.{pos, Bool, true, false, slice_get, bytes_eq, cond, nat_eq, All}
+use Rattle.std.proofs.Common.{◌≡◌, ◌≢◌, ℕ, zero, suc, List, [], ◌∷◌, refl, sym, ap, ◌∙◌, subst, Option, Some, None}
+use Rattle.std.specs.Prelude.{Bool, true, false, bytes_eq, cond, nat_eq}
 use Rattle.std.specs.Option.{option_map, option_map_or, unwrap_or}
 use Rattle.std.proofs.lemmas.Slice.Eq.{bytes_eq-Decides}
 use Rattle.std.proofs.lemmas.Bool.{eqb-true, eqb-false}
-use Rattle.hph_wasm.specs.declared.instr.Instr.{Instr}
 use Rattle.hph_wasm.specs.declared.value.Value.{Value as Word}
 use Rattle.hph_wasm.specs.declared.value.Value.TheVariants as word
 use Rattle.hph_php.specs.Values.{Value, Null}
 use Rattle.hph_php.specs.State.{State, Core, Heap, Name, Variables, Places as Cells, Located, named, with_named, joined, by_name, next_location, with_location, value_at, write_at, on_places, variables_in, variables, globals_with, frames_with, with_variables, placed, variable_value, set_variable, place_variable, location_in}
 use Rattle.hph_php.specs.State as state
 use Rattle.hph_php.specs.Declarations.{Codes}
-use Rattle.hph_php.specs.Answers.{Means, first, change, give, look}
+use Rattle.hph_php.specs.Answers.{change, look}
 use Rattle.hph_effects.specs.declared.row.Row.TheVariants as r
-use Rattle.hph_effects.specs.Hosts.{Item, a_value, a_place, Held, Slots, HostFrame, HostState, done, push, only_if}
+use Rattle.hph_effects.specs.Hosts.{Item, Held, Slots, HostFrame, done, push, only_if}
 use Rattle.hph_effects.specs.Slots.{with_slot, by_slot, slots_in, has_slot, slots_of, at_slot}
 use Rattle.hph_effects.specs.Slots as slots
 use Rattle.hph_sound.proofs.Soundness.{rules_keep_soundness}
-use Rattle.hph_seqv.specs.Simulates.{Setup, call, Situation, Around, Places, current, located, SameFrames, SameVariables, Keeps, KeepsGlobals, SameNames, IsSound, Stays, Fits, host_of, Runs}
-use Rattle.hph_seqv.proofs.Rows.{Gives, Replies, by_row}
-use Rattle.hph_seqv.proofs.Joins.{no_words, no_items, one_value, Values, After}
-use Rattle.hph_seqv.proofs.Values.{number, leaves_state}
+use Rattle.hph_seqv.specs.Simulates.{Setup, call, Situation, Around, Places, current, located, SameVariables, Keeps, IsSound, Fits, host_of, Runs, no_words, no_items, one_value, Values}
+use Rattle.hph_seqv.proofs.Rows.{by_row}
+use Rattle.hph_seqv.proofs.Values.{number}
 
 -- ---- slots
 
@@ -83,15 +81,15 @@ none_some l e = cc
 -- ---- the same change of both
 
 -- a slot that gets a location leaves those of others
-pub keeps_bound : (rebound : ℕ → Bool) (slots : Slots) (i l : ℕ) → located slots i ≡ None → Keeps rebound slots (with_slot slots i l)
-keeps_bound rebound slots i l none t k free e = by (nat_eq i t) refl
+pub keeps_bound : (slots : Slots) (i l : ℕ) → located slots i ≡ None → Keeps slots (with_slot slots i l)
+keeps_bound slots i l none t k e = by (nat_eq i t) refl
   where
     by : (b : Bool) → nat_eq i t ≡ b → located (with_slot slots i l) t ≡ Some k
     by true same = absurd (none_some k (sym none ∙ ap (located slots) (eqb-true i t same) ∙ e))
     by false differs = other_slot slots i t l (λ same. eqb-false i t differs same) ∙ e
 
-pub keeps_on : (rebound : ℕ → Bool) (a b c : Slots) → Keeps rebound a b → Keeps rebound b c → Keeps rebound a c
-keeps_on rebound a b c p q i l free e = q i l free (p i l free e)
+pub keeps_on : (a b c : Slots) → Keeps a b → Keeps b c → Keeps a c
+keeps_on a b c p q i l e = q i l (p i l e)
 
 module _ (slot : Name → Option ℕ) (one : (a b : Name) (i : ℕ) → slot a ≡ Some i → slot b ≡ Some i → a ≡ b) where
   -- a name's location and that of its slot
@@ -111,12 +109,12 @@ module _ (slot : Name → Option ℕ) (one : (a b : Name) (i : ℕ) → slot a �
           other_slot slots i t l apart ∙ each other t e ∙ sym (other_named variables name other l names)
 
   -- the slots and the variables after a change
-  pub record Alike (rebound : ℕ → Bool) (before : Slots) (host : Located Slots) (program : Located Variables) : Type 0 where
+  pub record Alike (before : Slots) (host : Located Slots) (program : Located Variables) : Type 0 where
     pub places : host.places ≡ program.places
     pub each : SameVariables slot host.variables program.variables
-    pub kept : Keeps rebound before host.variables
+    pub kept : Keeps before host.variables
 
-  module _ (rebound : ℕ → Bool) (slots : Slots) (variables : Variables) (cells : Cells) (each : SameVariables slot slots variables)
+  module _ (slots : Slots) (variables : Variables) (cells : Cells) (each : SameVariables slot slots variables)
       (name : Name) (i : ℕ) (at : slot name ≡ Some i) where
     abbrev host : Located Slots
     host = record { variables = slots; places = cells }
@@ -136,15 +134,15 @@ module _ (slot : Name → Option ℕ) (one : (a b : Name) (i : ℕ) → slot a �
       places = option_map_or (λ _. cells) o (with_location None cells);
     }
 
-    pub place_alike : Alike rebound slots (state.place by_slot i host) (state.place by_name name program)
-    place_alike = subst (λ o. Alike rebound slots (host_placed o) (program_placed (named name variables))) (sym (each name i at)) (by (named name variables) refl)
+    pub place_alike : Alike slots (state.place by_slot i host) (state.place by_name name program)
+    place_alike = subst (λ o. Alike slots (host_placed o) (program_placed (named name variables))) (sym (each name i at)) (by (named name variables) refl)
       where
-        by : (o : Option ℕ) → named name variables ≡ o → Alike rebound slots (host_placed o) (program_placed o)
-        by (Some l) e = record { places = refl; each = each; kept = λ i l free e. e }
+        by : (o : Option ℕ) → named name variables ≡ o → Alike slots (host_placed o) (program_placed o)
+        by (Some l) e = record { places = refl; each = each; kept = λ i l e. e }
         by None e = record {
           places = refl;
           each = same_bound slots variables name i (next_location cells) at each;
-          kept = keeps_bound rebound slots i (next_location cells) (each name i at ∙ e);
+          kept = keeps_bound slots i (next_location cells) (each name i at ∙ e);
         }
 
     -- the slot has a location then
@@ -155,7 +153,7 @@ module _ (slot : Name → Option ℕ) (one : (a b : Name) (i : ℕ) → slot a �
         by (Some l) e = e ∙ ap (λ o. Some (unwrap_or o 0)) (sym e)
         by None e = slot_with slots i (next_location cells) ∙ ap (λ o. Some (unwrap_or o 0)) (sym (slot_with slots i (next_location cells)))
 
-    pub set_alike : (v : Value) → Alike rebound slots (state.set by_slot i v host) (state.set by_name name v program)
+    pub set_alike : (v : Value) → Alike slots (state.set by_slot i v host) (state.set by_name name v program)
     set_alike v =
         let a = place_alike in
         record {
@@ -183,8 +181,14 @@ replaced (f ∷ fs) p slots = record p { own = slots }
 
 host_changed : (hosts : List HostFrame) (core : Core) (stack : List Item) (holds : List Held) (p : Places) (l : Located Slots) →
     slots.with_located l (record { core = core; stack = stack; holds = holds; globals = p.globals; frames = slots.frames_with p.own hosts; declaring = None })
-    ≡ record { core = on_places (λ _. l.places) core; stack = stack; holds = holds; globals = (replaced hosts p l.variables).globals;
-        frames = slots.frames_with (replaced hosts p l.variables).own hosts; declaring = None }
+    ≡ record {
+      core = on_places (λ _. l.places) core;
+      stack = stack;
+      holds = holds;
+      globals = (replaced hosts p l.variables).globals;
+      frames = slots.frames_with (replaced hosts p l.variables).own hosts;
+      declaring = None;
+    }
 host_changed [] core stack holds p l = refl
 host_changed (f ∷ fs) core stack holds p l = refl
 
@@ -200,15 +204,15 @@ module _ (s : Setup) where
   fits_by : (front behind : List Word) (hosts : List HostFrame) (since since_globals : Slots) (p : Places) (frames : List state.Frame)
       (globals : Variables) (heap : Heap) (slots : Slots) (variables : Variables) →
       Fits s (record { front = front; behind = behind; hosts = hosts; since = since; since_globals = since_globals }) p frames globals heap →
-      SameVariables s.slot slots variables → Keeps s.rebound (current hosts p) slots →
+      SameVariables s.slot slots variables → Keeps (current hosts p) slots →
       Fits s (record { front = front; behind = behind; hosts = hosts; since = since; since_globals = since_globals })
-          (replaced hosts p slots) (frames_with variables frames) (globals_with variables frames globals) heap
+      (replaced hosts p slots) (frames_with variables frames) (globals_with variables frames globals) heap
   fits_by front behind [] since since_globals p [] globals heap slots variables fits each kept = record {
     stays = fits.stays;
     same = tt;
     own = each;
     global = λ name i at. each name i (fits.stays.names name ∙ at);
-    kept = keeps_on s.rebound since p.globals slots fits.kept kept;
+    kept = keeps_on since p.globals slots fits.kept kept;
     kept_globals = tt;
     sound = frames_sound s.program heap [] variables fits.sound;
   }
@@ -219,13 +223,13 @@ module _ (s : Setup) where
     same = fits.same;
     own = each;
     global = fits.global;
-    kept = keeps_on s.rebound since p.own slots fits.kept kept;
+    kept = keeps_on since p.own slots fits.kept kept;
     kept_globals = fits.kept_globals;
     sound = frames_sound s.program heap (f ∷ fs) variables fits.sound;
   }
 
   pub fits_with : (w : Situation) (p : Places) (frames : List state.Frame) (globals : Variables) (heap : Heap) (slots : Slots) (variables : Variables) →
-      Fits s w p frames globals heap → SameVariables s.slot slots variables → Keeps s.rebound (current w.hosts p) slots →
+      Fits s w p frames globals heap → SameVariables s.slot slots variables → Keeps (current w.hosts p) slots →
       Fits s w (replaced w.hosts p slots) (frames_with variables frames) (globals_with variables frames globals) heap
   fits_with w p frames globals heap slots variables fits each kept =
       fits_by w.front w.behind w.hosts w.since w.since_globals p frames globals heap slots variables fits each kept
@@ -249,7 +253,7 @@ module _ (s : Setup) where
     current_replaced (f ∷ fs) slots = refl
 
     pub changed : (host : Located Slots → Located Slots) (program : Located Variables → Located Variables) →
-        Alike s.slot s.one_slot s.rebound (current k.situation.hosts p) (host host_variables) (program program_variables) → Changed host program
+        Alike s.slot s.one_slot (current k.situation.hosts p) (host host_variables) (program program_variables) → Changed host program
     changed host program a = record {
       places = replaced k.situation.hosts p (host host_variables).variables;
       own = current_replaced k.situation.hosts (host host_variables).variables;
@@ -269,32 +273,37 @@ module _ (s : Setup) where
 
 -- ---- rows
 
-module _ (s : Setup) (depth : ℕ) (name : Name) (i : ℕ) (at : s.slot name ≡ Some i) where
+module _ (s : Setup) (depth : ℕ) (Where : Situation → Type 0) (name : Name) (i : ℕ) (at : s.slot name ≡ Some i) where
   abbrev pub value_of : State → Value
   value_of st = unwrap_or (variable_value name st) Null
 
-  pub gets : Values s depth 3 (number i ∷ call r.Get ∷ []) (look value_of)
-  gets = by_row s depth r.Get (number i ∷ []) 1 [] (word.I32 i ∷ []) [] no_words one_value (look value_of)
-      (λ rest below w. (word.I32 i ∷ below, refl, refl)) (λ n st k p fits. (refl, record {
-        places = p;
-        result = None;
-        fits = fits;
-        is = ap (λ t. only_if t (host_of k p k.stack st) (done (push (unwrap_or (joined (option_map (value_at st.core.places)
-                (located (slots_of (host_of k p k.stack st)) i))) Null) (host_of k p k.stack st)))) (in_frame s k p k.stack st fits name i at)
-            ∙ ap (λ o. done (push (unwrap_or (joined (option_map (value_at st.core.places) o)) Null) (host_of k p k.stack st))) (found_same s k p k.stack st fits name i at);
-        typed = refl;
-      }))
+  pub gets : Values s depth Where 3 (number i ∷ call r.Get ∷ []) (look value_of)
+  gets = by_row s depth Where r.Get (number i ∷ []) 1 [] (word.I32 i ∷ []) [] no_words one_value (look value_of)
+      (λ rest below w. (word.I32 i ∷ below, refl, refl)) (λ n st k p fits. (
+        refl,
+        record {
+          places = p;
+          result = None;
+          fits = fits;
+          is = ap (λ t. only_if t (host_of k p k.stack st) (done (push (unwrap_or (joined (option_map (value_at st.core.places)
+              (located (slots_of (host_of k p k.stack st)) i))) Null) (host_of k p k.stack st)))) (in_frame s k p k.stack st fits name i at)
+              ∙ ap (λ o. done (push (unwrap_or (joined (option_map (value_at st.core.places) o)) Null) (host_of k p k.stack st))) (found_same s k p k.stack st fits name i at);
+          typed = refl;
+        },
+      ))
 
-  pub sets : (v : Value) → Runs s depth [] (one_value v) no_words no_items 3 (number i ∷ call r.Set ∷ []) (change (set_variable name v))
-  sets v = by_row s depth r.Set (number i ∷ []) 1 [] (word.I32 i ∷ []) (one_value v) no_words no_items (change (set_variable name v))
+  pub sets : (v : Value) → Runs s depth Where [] (one_value v) no_words no_items 3 (number i ∷ call r.Set ∷ []) (change (set_variable name v))
+  sets v = by_row s depth Where r.Set (number i ∷ []) 1 [] (word.I32 i ∷ []) (one_value v) no_words no_items (change (set_variable name v))
       (λ rest below w. (word.I32 i ∷ below, refl, refl)) (λ n st k p fits.
-          let c = changed s k p k.stack st fits (state.set by_slot i v) (state.set by_name name v)
-              (set_alike s.slot s.one_slot s.rebound (current k.situation.hosts p) (variables st) st.core.places fits.own name i at v) in
-          (refl, record {
-            places = c.places;
-            result = None;
-            fits = c.fits;
-            is = ap (λ t. only_if t (host_of k p k.stack st) (done (slots.on_located (state.set by_slot i v) (host_of k p k.stack st))))
-                (in_frame s k p k.stack st fits name i at) ∙ ap done c.is;
-            typed = refl;
-          }))
+      let c = changed s k p k.stack st fits (state.set by_slot i v) (state.set by_name name v)
+      (set_alike s.slot s.one_slot (current k.situation.hosts p) (variables st) st.core.places fits.own name i at v) in (
+        refl,
+        record {
+          places = c.places;
+          result = None;
+          fits = c.fits;
+          is = ap (λ t. only_if t (host_of k p k.stack st) (done (slots.on_located (state.set by_slot i v) (host_of k p k.stack st))))
+              (in_frame s k p k.stack st fits name i at) ∙ ap done c.is;
+          typed = refl;
+        },
+      ))

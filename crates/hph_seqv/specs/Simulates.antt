@@ -1,7 +1,7 @@
 -- What it is that code of a module does what a part of a program means, whatever stands around it. Of what stands around nothing is
 -- assumed: not of the instructions behind the code, nor of the values and labels, the frames, the items of the operand stack and of
 -- the hold stack that were there before. This project's own.
-use Rattle.std.specs.Prelude.{◌≡◌, ℕ, Bool, true, false, ◌+◌, ◌*◌, ◌≤◌, List, [], ◌∷◌, ◌++◌, length, take, drop, All, Option, None, Some, slice_get}
+use Rattle.std.specs.Prelude.{◌≡◌, ℕ, true, ◌+◌, ◌*◌, ◌≤◌, List, [], ◌∷◌, ◌++◌, length, take, drop, All, Option, None, Some, slice_get}
 use Rattle.std.specs.Option.{option_map_or}
 use Rattle.hph_wasm.specs.declared.instr.Instr.{Instr, Call}
 use Rattle.hph_wasm.specs.declared.value.Value.{Value as Word}
@@ -14,6 +14,7 @@ use Rattle.hph_wasm.specs.Outcome as outcome
 use Rattle.hph_wasm.specs.Configuration.{Label, Frame, Setting, Configuration, Running}
 use Rattle.hph_wasm.specs.Reduction.{reduce}
 use Rattle.hph_wasm.specs.Run.{outcome_of}
+use Rattle.hph_php.specs.Values.{Value}
 use Rattle.hph_php.specs.Imports.{import_row}
 use Rattle.hph_php.specs.Imports as php
 use Rattle.hph_php.specs.State.{State, Name, Variables, Heap, named, variables_in}
@@ -23,7 +24,7 @@ use Rattle.hph_php.specs.Invariants.{IsDeclared, FitsCode}
 use Rattle.hph_php.specs.Answers.{Means, Answer, Gets, Ends, More, Stop}
 use Rattle.hph_effects.specs.declared.row.Row.{Row}
 use Rattle.hph_effects.specs.Rows.{row_number, row_import}
-use Rattle.hph_effects.specs.Hosts.{Item, Held, Slots, HostFrame, HostState, HostStatus, Serving}
+use Rattle.hph_effects.specs.Hosts.{Item, a_value, Held, Slots, HostFrame, HostState, HostStatus, Serving}
 use Rattle.hph_effects.specs.Slots.{by_slot, class_in, has_slot, frames_with}
 use Rattle.hph_effects.specs.Effects.{php1}
 
@@ -70,8 +71,7 @@ pub record IsRow (m : Module) (row : Row) : Type 0 where
   pub numbered : import_row import.«module» import.name (type_of row) ≡ Some (row_number row)
 
 -- A module, its program, and what a unit pays for; where the bytes of literals lie; the slots of names in the function and in the
--- first frame, different ones for different names; the function's class and scratch local; and the slots of the variables that code
--- may give another location by `=&`.
+-- first frame, different ones for different names; and the function's class and scratch local.
 pub record Setup : Type 0 where
   pub m : Module
   pub program : Codes
@@ -83,7 +83,6 @@ pub record Setup : Type 0 where
   pub slot : Name → Option ℕ
   pub class : Option ℕ
   pub scratch : ℕ
-  pub rebound : ℕ → Bool
   pub rows : (row : Row) → IsRow m row
   pub literals : (bytes : List ℕ) (p : ℕ) → place bytes ≡ Some p →
       (p + length bytes ≤ length memory) × (take (length bytes) (drop p memory) ≡ bytes)
@@ -134,9 +133,9 @@ SameFrames _ _ = ⊥
 abbrev pub SameVariables : (Name → Option ℕ) → Slots → Variables → Type 0
 SameVariables slot slots variables = (name : Name) (i : ℕ) → slot name ≡ Some i → located slots i ≡ named name variables
 
--- Slots keep the locations that they had, but for some.
-abbrev pub Keeps : (ℕ → Bool) → (before after : Slots) → Type 0
-Keeps rebound before after = (i l : ℕ) → rebound i ≡ false → located before i ≡ Some l → located after i ≡ Some l
+-- Slots keep the locations that they had.
+abbrev pub Keeps : (before after : Slots) → Type 0
+Keeps before after = (i l : ℕ) → located before i ≡ Some l → located after i ≡ Some l
 
 -- At the top level names have their global slots; a function leaves the locations of global slots as they are.
 abbrev pub SameNames : Setup → List HostFrame → Type 0
@@ -145,7 +144,7 @@ SameNames s (f ∷ fs) = Unit {0}
 
 abbrev pub KeepsGlobals : List HostFrame → (before after : Slots) → Type 0
 KeepsGlobals [] before after = Unit {0}
-KeepsGlobals (f ∷ fs) before after = Keeps (λ i. false) before after
+KeepsGlobals (f ∷ fs) before after = Keeps before after
 
 -- what the heap has is the program's, and each frame fits its code
 pub record IsSound (program : Codes) (heap : Heap) (frames : List state.Frame) : Type 0 where
@@ -165,7 +164,7 @@ pub record Fits (s : Setup) (w : Situation) (p : Places) (frames : List state.Fr
   pub same : SameFrames w.hosts frames
   pub own : SameVariables s.slot (current w.hosts p) (variables_in frames globals)
   pub global : SameVariables s.global_slot p.globals globals
-  pub kept : Keeps s.rebound w.since (current w.hosts p)
+  pub kept : Keeps w.since (current w.hosts p)
   pub kept_globals : KeepsGlobals w.hosts w.since_globals p.globals
   pub sound : IsSound s.program heap frames
 
@@ -197,9 +196,43 @@ module _ (s : Setup) where
     pub is : c ≡ Running (code ++ k.rest) (values ++ k.values) (setting k scratch places stack st)
 
   module _ (depth : ℕ) where
-    -- The promise of code: from values and items that lie on the stacks, wherever it stands and whatever the state and the units, it
-    -- does what the meaning says, and leaves in their place the values and items that stand for what is got.
-    pub record Runs {A : Type 0} (values : List Word) (items : List Item) (leaves : A → List Word) (gives : A → List Item)
-        (b : ℕ) (code : List Instr) (mean : Means A) : Type 0 where
-      pub by : (n : ℕ) → n ≤ depth → (st : State) (k : Around) (c : Conf) → Stands k code values (items ++ k.stack) st c →
+    -- The promise of code: from values and items that lie on the stacks, in every situation of a sort, whatever stands around it and
+    -- whatever the state and the units, it does what the meaning says, and leaves in their place the values and items that stand for
+    -- what is got.
+    pub record Runs (Where : Situation → Type 0) {A : Type 0} (values : List Word) (items : List Item) (leaves : A → List Word)
+        (gives : A → List Item) (b : ℕ) (code : List Instr) (mean : Means A) : Type 0 where
+      pub by : (n : ℕ) → n ≤ depth → (st : State) (k : Around) (c : Conf) → Where k.situation → Stands k code values (items ++ k.stack) st c →
           Follows s.m s.u (λ a st c. Stands k [] (leaves a) (gives a ++ k.stack) st c) b n c (mean n st)
+
+-- in every situation
+abbrev pub Everywhere : Situation → Type 0
+Everywhere w = Unit {0}
+
+-- where a slot keeps a location
+abbrev pub Pinned : ℕ → ℕ → Situation → Type 0
+Pinned i l w = located w.since i ≡ Some l
+
+-- ---- kinds of code
+
+-- nothing, on either stack
+abbrev pub no_words : {A : Type 0} → A → List Word
+no_words a = []
+
+abbrev pub no_items : {A : Type 0} → A → List Item
+no_items a = []
+
+abbrev pub one_value : Value → List Item
+one_value v = a_value v ∷ []
+
+module _ (s : Setup) (depth : ℕ) (Where : Situation → Type 0) where
+  -- a value comes to lie on the operand stack
+  abbrev pub Values : ℕ → List Instr → Means Value → Type 0
+  Values b code mean = Runs s depth Where [] [] no_words one_value b code mean
+
+  -- code that goes on from a value on the operand stack, which it takes
+  abbrev pub After : ℕ → List Instr → (Value → Means Value) → Type 0
+  After b code mean = (v : Value) → Runs s depth Where [] (one_value v) no_words one_value b code (mean v)
+
+  -- code that leaves nothing
+  abbrev pub Acts : ℕ → List Instr → Means (Unit {0}) → Type 0
+  Acts b code mean = Runs s depth Where [] [] no_words no_items b code mean
