@@ -201,9 +201,10 @@ module _ (code : List Instr) (held : Held) where
         }) way,
       )
 
-  pub left_done : (cs cs0 : List Caller) (stack : List Value) (own : ℕ) (es : List Entered) (own_es : ℕ) (c : Caller) → own_es ≡ 0 → cs0 ≡ c ∷ cs →
-      Left (core_of code stack own es own_es held cs0) true (core_of c.rest.now stack (own + c.saved) es c.entered (record held { locals = c.locals }) cs)
-  left_done cs cs0 stack own es own_es c none p = rw (none, p) (
+  pub left_done : (cs cs0 : List Caller) (stack : List Value) (own : ℕ) (es : List Entered) (own_es : ℕ) (c : Caller) (locals : List Value) → own_es ≡ 0 →
+      cs0 ≡ c ∷ cs → locals ≡ c.locals →
+      Left (core_of code stack own es own_es held cs0) true (core_of c.rest.now stack (own + c.saved) es c.entered (record held { locals = locals }) cs)
+  left_done cs cs0 stack own es own_es c locals none p q = rw (none, p, q) (
     frame_around c (labels_of (take c.entered es) (drop c.saved (drop own stack))) (take c.saved (drop own stack)),
     frames_of cs (drop c.entered es) (under (take c.entered es) (drop c.saved (drop own stack))),
     refl,

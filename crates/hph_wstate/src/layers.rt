@@ -31,5 +31,5 @@ pub struct Caller<'m> {
     pub saved: usize,
     pub entered: usize,
     pub rest: &'m [Instr],
-    pub locals: FrameLocals,
+    pub locals: FrameLocals<'m>,
 }

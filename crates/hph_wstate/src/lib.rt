@@ -3,10 +3,12 @@
 //! (Core Specification 1.0, section 4.2).
 #![tactic(auto)]
 
+mod far;
 mod layers;
 mod locals;
 mod machine;
 mod pops;
+mod zero;
 
 pub use layers::{Caller, Entered, Side};
 pub use locals::FrameLocals;

@@ -23,7 +23,7 @@ pub struct Machine<'m> {
     own: usize,
     entered: Pile<layer::Entered<'m>>,
     own_entered: usize,
-    locals: FrameLocals,
+    locals: FrameLocals<'m>,
     callers: Pile<layer::Caller<'m>>,
     memory: Vec<u8>,
     globals: Items<Value>,
@@ -320,19 +320,11 @@ impl<'m> Machine<'m> {
         match self.callers.pop() {
             None => false,
             Some(caller) => {
-                let layer::Caller {
-                    function: _,
-                    gives: _,
-                    saved,
-                    entered,
-                    rest,
-                    locals,
-                } = caller;
                 let _held = self.values.len();
-                self.own += saved;
-                self.own_entered = entered;
-                self.code = rest;
-                self.locals = locals;
+                self.own += caller.saved;
+                self.own_entered = caller.entered;
+                self.code = caller.rest;
+                let _left = mem::replace(&mut self.locals, caller.locals);
                 true
             }
         }
@@ -365,7 +357,7 @@ impl<'m> Machine<'m> {
             return Ok(false);
         }
         let passed = self.values.topmost(alloc, params)?;
-        let locals = FrameLocals::of_call(passed, &func.locals)?;
+        let locals = FrameLocals::of_call(alloc, passed, &func.locals)?;
         let caller = layer::Caller {
             function,
             gives,

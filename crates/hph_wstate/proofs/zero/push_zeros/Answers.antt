@@ -1,6 +1,6 @@
 use Rattle.hph_wstate.proofs.Zeros.{zeros_more}
 use Rattle.std.proofs.Common.{◌∙◌, ap, ◌++◌, ◌∷◌, []}
-use Rattle.hph_wstate.proofs.locals.push_zeros.Goals as goal
+use Rattle.hph_wstate.proofs.zero.push_zeros.Goals as goal
 
 pub loop-k-preserved : goal.loop-k-preserved
 loop-k-preserved c = zeros_more _ _ _ _ _ _ c.in-Some.ensures c.zero.ensures
