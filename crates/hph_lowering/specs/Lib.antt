@@ -1,0 +1,4 @@
+pub mod Code
+pub mod Expressions
+pub mod Statements
+pub mod Bodies
