@@ -7,7 +7,7 @@ use Rattle.hph_php.specs.State.{State}
 use Rattle.hph_php.specs.Answers.{Means, bind, give}
 use Rattle.hph_effects.specs.Hosts.{Item}
 use Rattle.hph_seqv.specs.Simulates.{Conf, Setup, Situation, Around, setting, Stands, Runs}
-use Rattle.hph_seqv.proofs.Steps.{enough, got, after_bind, said}
+use Rattle.hph_seqv.proofs.Steps.{enough, got, after_bind, said, mapped}
 
 -- what stands around the first part of some code
 abbrev pub before : List Instr → Around → Around
@@ -89,3 +89,14 @@ module _ (s : Setup) (depth : ℕ) (Where : Situation → Type 0) where
       (leaves : A → List Word) (gives : A → List Item) (b : ℕ) (code : List Instr) (mean : Means A) →
       Runs s depth Where values items leaves gives b code mean → Runs s depth Other values items leaves gives b code mean
   narrowed Other into values items leaves gives b code mean p = record { by = λ n le st k c w r. p.by n le st k c (into k.situation w) r }
+
+  -- what is made of what is got lies there
+  pub makes : {A B : Type 0} (values : List Word) (items : List Item) (leaves : A → List Word) (gives : A → List Item) (leaves_b : B → List Word)
+      (gives_b : B → List Item) (b : ℕ) (code : List Instr) (mean : Means A) (go : A → B) →
+      ((a : A) (k : Around) (st : State) (c : Conf) → Stands s k [] (leaves a) (gives a ++ k.stack) st c →
+          Stands s k [] (leaves_b (go a)) (gives_b (go a) ++ k.stack) st c) →
+      Runs s depth Where values items leaves gives b code mean →
+      Runs s depth Where values items leaves_b gives_b b code (bind mean (λ a. give (go a)))
+  makes values items leaves gives leaves_b gives_b b code mean go same p = record { by = λ n le st k c w r.
+      mapped s.m s.u (λ a st c. Stands s k [] (leaves a) (gives a ++ k.stack) st c) (λ a st c. Stands s k [] (leaves_b a) (gives_b a ++ k.stack) st c)
+      b n c (mean n st) go (p.by n le st k c w r) (λ a st1 c1 g. same a k st1 c1 g) }

@@ -86,7 +86,7 @@ module _ (s : Setup) where
         ((rest : List Instr) (below : List Word) (at : Setting HostStatus) →
         (words : List Word) × (reduce php1 s.m i (Running ((front ++ call row ∷ []) ++ rest) (values ++ below) at) ≡ Running (call row ∷ rest) words at)
         × (arguments (type_of row).params words ≡ Some (record { passed = passed; below = below }))) →
-        ((n : ℕ) (st : State) (k : Around) (p : Places) → Fits s k.situation p st.frames st.globals st.core.heap →
+        ((n : ℕ) (st : State) (k : Around) (p : Places) → Where k.situation → Fits s k.situation p st.frames st.globals st.core.heap →
         Replies s k (type_of row).results leaves gives n (call_row row (host_of k p (items ++ k.stack) st) (numbers passed) s.memory) (mean n st)) →
         Runs s depth Where values items leaves gives (i + 2) (front ++ call row ∷ []) mean
     by_row row front i values passed items leaves gives mean pushes replies = record {
@@ -94,5 +94,5 @@ module _ (s : Setup) where
           let at : Setting HostStatus = setting s k r.scratch r.places (items ++ k.stack) st in
           let pushed = pushes k.rest k.values at in
           row_follows k row leaves gives passed pushed.0 i (i + 2) n c r.scratch r.places (items ++ k.stack) st (mean n st) (omega arith)
-          (ap (reduce php1 s.m i) r.is ∙ pushed.1) pushed.2 (replies n st k r.places r.fits);
+          (ap (reduce php1 s.m i) r.is ∙ pushed.1) pushed.2 (replies n st k r.places w r.fits);
     }

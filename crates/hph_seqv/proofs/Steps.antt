@@ -5,7 +5,7 @@ use Rattle.hph_wasm.specs.Reduction.{reduce}
 use Rattle.hph_wasm.specs.Run.{outcome_of}
 use Rattle.hph_wasm.proofs.Runs.{reduce-add}
 use Rattle.hph_php.specs.State.{State}
-use Rattle.hph_php.specs.Answers.{Answer, Gets, Ends, More, Means, proceed}
+use Rattle.hph_php.specs.Answers.{Answer, Gets, Ends, More, Means, proceed, give}
 use Rattle.hph_effects.specs.Effects.{php1}
 use Rattle.hph_seqv.specs.Simulates.{Conf, Follows}
 
@@ -99,3 +99,11 @@ module _ (m : Module) where
   said u Goal GoalB b n c (Gets v n' st) f g = (f.0, g v st (reduce php1 m f.0 c) f.1, f.2)
   said u Goal GoalB b n c (Ends stop st) f g = f
   said u Goal GoalB b n c (More st) f g = f
+
+  -- what is made of what is got
+  pub mapped : (u : ℕ) {A B : Type 0} (Goal : A → State → Conf → Type 0) (GoalB : B → State → Conf → Type 0) (b n : ℕ) (c : Conf) (x : Answer A)
+      (go : A → B) → Follows m u Goal b n c x → ((v : A) (st : State) (c1 : Conf) → Goal v st c1 → GoalB (go v) st c1) →
+      Follows m u GoalB b n c (proceed x (λ v. give (go v)))
+  mapped u Goal GoalB b n c (Gets v n' st) go f g = (f.0, g v st (reduce php1 m f.0 c) f.1, f.2)
+  mapped u Goal GoalB b n c (Ends stop st) go f g = f
+  mapped u Goal GoalB b n c (More st) go f g = f

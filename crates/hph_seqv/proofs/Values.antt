@@ -78,17 +78,17 @@ module _ (s : Setup) (depth : ℕ) (Where : Situation → Type 0) where
 
   pub values_null : Values s depth Where 2 null (give Null)
   values_null = by_row s depth Where r.Null [] 0 [] [] [] no_words one_value (give Null) (λ rest below at. (below, refl, refl))
-      (λ n st k p fits. (refl, leaves_state s k p (a_value Null ∷ k.stack) st fits))
+      (λ n st k p here fits. (refl, leaves_state s k p (a_value Null ∷ k.stack) st fits))
 
   pub values_boolean : (t : Bool) → Values s depth Where 3 (boolean t) (give (Boolean t))
   values_boolean true = by_row s depth Where r.Bool (number 1 ∷ []) 1 [] (word.I32 1 ∷ []) [] no_words one_value (give (Boolean true))
-      (λ rest below at. (word.I32 1 ∷ below, refl, refl)) (λ n st k p fits. (refl, leaves_state s k p (a_value (Boolean true) ∷ k.stack) st fits))
+      (λ rest below at. (word.I32 1 ∷ below, refl, refl)) (λ n st k p here fits. (refl, leaves_state s k p (a_value (Boolean true) ∷ k.stack) st fits))
   values_boolean false = by_row s depth Where r.Bool (number 0 ∷ []) 1 [] (word.I32 0 ∷ []) [] no_words one_value (give (Boolean false))
-      (λ rest below at. (word.I32 0 ∷ below, refl, refl)) (λ n st k p fits. (refl, leaves_state s k p (a_value (Boolean false) ∷ k.stack) st fits))
+      (λ rest below at. (word.I32 0 ∷ below, refl, refl)) (λ n st k p here fits. (refl, leaves_state s k p (a_value (Boolean false) ∷ k.stack) st fits))
 
   pub values_int : (i : ℕ) → signed 64 i ≡ pos i → Values s depth Where 3 (int i) (give (Int (pos i)))
   values_int i small = by_row s depth Where r.Int (I64Const (pos i) ∷ []) 1 [] (word.I64 i ∷ []) [] no_words one_value (give (Int (pos i)))
-      (λ rest below at. (word.I64 i ∷ below, refl, refl)) (λ n st k p fits. (
+      (λ rest below at. (word.I64 i ∷ below, refl, refl)) (λ n st k p here fits. (
         refl,
         record {
           places = p;
@@ -106,7 +106,7 @@ module _ (s : Setup) (depth : ℕ) (Where : Situation → Type 0) where
   pub values_text : (bytes : List ℕ) (p : ℕ) → s.place bytes ≡ Some p → Values s depth Where 4 (of_bytes p bytes r.Str) (give (Str bytes))
   values_text bytes p at = by_row s depth Where r.Str (number p ∷ number (length bytes) ∷ []) 2 [] (word.I32 p ∷ word.I32 (length bytes) ∷ []) []
       no_words one_value (give (Str bytes)) (λ rest below w. (word.I32 (length bytes) ∷ word.I32 p ∷ below, refl, refl))
-      (λ n st k q fits. (
+      (λ n st k q here fits. (
         refl,
         record {
           places = q;
@@ -120,7 +120,7 @@ module _ (s : Setup) (depth : ℕ) (Where : Situation → Type 0) where
   pub acts_write : (bytes : List ℕ) (p : ℕ) → s.place bytes ≡ Some p → Acts s depth Where 4 (of_bytes p bytes r.Write) (print bytes)
   acts_write bytes p at = by_row s depth Where r.Write (number p ∷ number (length bytes) ∷ []) 2 [] (word.I32 p ∷ word.I32 (length bytes) ∷ []) []
       no_words no_items (print bytes) (λ rest below w. (word.I32 (length bytes) ∷ word.I32 p ∷ below, refl, refl))
-      (λ n st k q fits. (
+      (λ n st k q here fits. (
         refl,
         record {
           places = q;
@@ -136,11 +136,11 @@ module _ (s : Setup) (depth : ℕ) (Where : Situation → Type 0) where
   -- a value is left out
   pub drops : (v : Value) → Runs s depth Where [] (one_value v) no_words no_items 2 (call r.Drop ∷ []) nothing
   drops v = by_row s depth Where r.Drop [] 0 [] [] (one_value v) no_words no_items nothing (λ rest below at. (below, refl, refl))
-      (λ n st k p fits. (refl, leaves_state s k p k.stack st fits))
+      (λ n st k p here fits. (refl, leaves_state s k p k.stack st fits))
 
   pub duplicates : (v : Value) → Runs s depth Where [] (one_value v) no_words (λ (w : Value). a_value w ∷ a_value w ∷ []) 2 (call r.Dup ∷ []) (give v)
   duplicates v = by_row s depth Where r.Dup [] 0 [] [] (one_value v) no_words (λ (w : Value). a_value w ∷ a_value w ∷ []) (give v)
-      (λ rest below at. (below, refl, refl)) (λ n st k p fits. (refl, leaves_state s k p (a_value v ∷ a_value v ∷ k.stack) st fits))
+      (λ rest below at. (below, refl, refl)) (λ n st k p here fits. (refl, leaves_state s k p (a_value v ∷ a_value v ∷ k.stack) st fits))
 
   -- ---- operators
 
@@ -149,7 +149,7 @@ module _ (s : Setup) (depth : ℕ) (Where : Situation → Type 0) where
       Runs s depth Where [] (a_value w ∷ a_value v ∷ []) no_words one_value 3 (op2 op) (settle (binary_of op v w))
   operates op v w = by_row s depth Where r.Op2 (number (binary_code op) ∷ []) 1 [] (word.I32 (binary_code op) ∷ []) (a_value w ∷ a_value v ∷ [])
       no_words one_value (settle (binary_of op v w)) (λ rest below at. (word.I32 (binary_code op) ∷ below, refl, refl))
-      (λ n st k p fits.
+      (λ n st k p here fits.
       let h : HostState = host_of k p (a_value w ∷ a_value v ∷ k.stack) st in
       subst (λ o. Replies s k [] no_words one_value n (found o h (λ op. popped h (λ y h. popped h (λ x h. settled (binary_of op x y) h))))
       (settle (binary_of op v w) n st)) (sym (binary_inverse op)) (settles s k p n st (binary_of op v w) fits))
@@ -157,20 +157,20 @@ module _ (s : Setup) (depth : ℕ) (Where : Situation → Type 0) where
   pub operates_on : (op : UnOp) → After s depth Where 3 (op1 op) (λ v. settle (unary_of op v))
   operates_on op v = by_row s depth Where r.Op1 (number (unary_code op) ∷ []) 1 [] (word.I32 (unary_code op) ∷ []) (one_value v)
       no_words one_value (settle (unary_of op v)) (λ rest below at. (word.I32 (unary_code op) ∷ below, refl, refl))
-      (λ n st k p fits.
+      (λ n st k p here fits.
       let h : HostState = host_of k p (a_value v ∷ k.stack) st in
       subst (λ o. Replies s k [] no_words one_value n (found o h (λ op. popped h (λ x h. settled (unary_of op x) h)))
       (settle (unary_of op v) n st)) (sym (unary_inverse op)) (settles s k p n st (unary_of op v) fits))
 
   pub tests : (v : Value) → Runs s depth Where [] (one_value v) as_word no_items 2 (call r.Truth ∷ []) (give (to_bool v))
   tests v = by_row s depth Where r.Truth [] 0 [] [] (one_value v) as_word no_items (give (to_bool v)) (λ rest below at. (below, refl, refl))
-      (λ n st k p fits. (refl, record { places = p; result = Some (truth (to_bool v)); fits = fits; is = refl; typed = refl }))
+      (λ n st k p here fits. (refl, record { places = p; result = Some (truth (to_bool v)); fits = fits; is = refl; typed = refl }))
 
   -- ---- output, constants and the end
 
   pub echoes : (v : Value) → Runs s depth Where [] (one_value v) no_words no_items 2 (call r.Echo ∷ []) (echoed v)
   echoes v = by_row s depth Where r.Echo [] 0 [] [] (one_value v) no_words no_items (echoed v) (λ rest below at. (below, refl, refl))
-      (λ n st k p fits. by n st k p (to_text v) fits)
+      (λ n st k p here fits. by n st k p (to_text v) fits)
     where
       by : (n : ℕ) (st : State) (k : Around) (p : Places) (t : Result (List ℕ) Fatal) → Fits s k.situation p st.frames st.globals st.core.heap →
           Replies s k [] no_words no_items n (on_ok t (host_of k p k.stack st) (λ text. done (hosts.print text (host_of k p k.stack st))))
@@ -180,11 +180,11 @@ module _ (s : Setup) (depth : ℕ) (Where : Situation → Type 0) where
 
   pub gets_constant : (name : Name) → Runs s depth Where [] (one_value (Str name)) no_words one_value 2 (call r.ConstGet ∷ []) (constant_named name)
   gets_constant name = by_row s depth Where r.ConstGet [] 0 [] [] (one_value (Str name)) no_words one_value (constant_named name)
-      (λ rest below at. (below, refl, refl)) (λ n st k p fits. settles s k p n st (constant_in name st.core.heap) fits)
+      (λ rest below at. (below, refl, refl)) (λ n st k p here fits. settles s k p n st (constant_in name st.core.heap) fits)
 
   pub exits : (v : Value) → Runs s depth Where [] (one_value v) no_words one_value 2 (call r.Exit ∷ []) (exit_with v)
   exits v = by_row s depth Where r.Exit [] 0 [] [] (one_value v) no_words one_value (exit_with v) (λ rest below at. (below, refl, refl))
-      (λ n st k p fits. by n st k p (exit_of v))
+      (λ n st k p here fits. by n st k p (exit_of v))
     where
       by : (n : ℕ) (st : State) (k : Around) (p : Places) (e : Result (List ℕ × ℤ) Fatal) →
           Replies s k [] no_words one_value n (on_ok e (host_of k p k.stack st) (λ e. stops (Exits e.1) (hosts.print e.0 (host_of k p k.stack st))))
@@ -196,7 +196,7 @@ module _ (s : Setup) (depth : ℕ) (Where : Situation → Type 0) where
 
   pub empty_arrays : Runs s depth Where [] [] no_words array_item 2 (call r.Arr ∷ []) (give empty_array)
   empty_arrays = by_row s depth Where r.Arr [] 0 [] [] [] no_words array_item (give empty_array) (λ rest below at. (below, refl, refl))
-      (λ n st k p fits. (refl, leaves_state s k p (a_value (array_value empty_array) ∷ k.stack) st fits))
+      (λ n st k p here fits. (refl, leaves_state s k p (a_value (array_value empty_array) ∷ k.stack) st fits))
 
   -- an array that is made or a fatal error
   pub settles_array : (k : Around) (p : Places) (n : ℕ) (st : State) (a : Result (Array Value) Fatal) → Fits s k.situation p st.frames st.globals st.core.heap →
@@ -211,13 +211,13 @@ module _ (s : Setup) (depth : ℕ) (Where : Situation → Type 0) where
   pub adds_last : (v : Value) (a : Array Value) →
       Runs s depth Where [] (a_value v ∷ a_value (array_value a) ∷ []) no_words array_item 2 (call r.Elem ∷ []) (settle (append a v))
   adds_last v a = by_row s depth Where r.Elem [] 0 [] [] (a_value v ∷ a_value (array_value a) ∷ []) no_words array_item (settle (append a v))
-      (λ rest below at. (below, refl, refl)) (λ n st k p fits.
+      (λ rest below at. (below, refl, refl)) (λ n st k p here fits.
       subst (λ b. Replies s k [] no_words array_item n (settled (map_ok array_value (append b v)) (host_of k p k.stack st)) (settle (append a v) n st))
       (sym (same_array a)) (settles_array k p n st (append a v) fits))
 
   pub adds_keyed : (key v : Value) (a : Array Value) →
       Runs s depth Where [] (a_value v ∷ a_value key ∷ a_value (array_value a) ∷ []) no_words array_item 2 (call r.ElemKey ∷ []) (settle (with_key key v a))
   adds_keyed key v a = by_row s depth Where r.ElemKey [] 0 [] [] (a_value v ∷ a_value key ∷ a_value (array_value a) ∷ []) no_words array_item
-      (settle (with_key key v a)) (λ rest below at. (below, refl, refl)) (λ n st k p fits.
+      (settle (with_key key v a)) (λ rest below at. (below, refl, refl)) (λ n st k p here fits.
       subst (λ b. Replies s k [] no_words array_item n (settled (map_ok array_value (with_key key v b)) (host_of k p k.stack st)) (settle (with_key key v a) n st))
       (sym (same_array a)) (settles_array k p n st (with_key key v a) fits))

@@ -279,7 +279,7 @@ module _ (s : Setup) (depth : ℕ) (Where : Situation → Type 0) (name : Name) 
 
   pub gets : Values s depth Where 3 (number i ∷ call r.Get ∷ []) (look value_of)
   gets = by_row s depth Where r.Get (number i ∷ []) 1 [] (word.I32 i ∷ []) [] no_words one_value (look value_of)
-      (λ rest below w. (word.I32 i ∷ below, refl, refl)) (λ n st k p fits. (
+      (λ rest below w. (word.I32 i ∷ below, refl, refl)) (λ n st k p here fits. (
         refl,
         record {
           places = p;
@@ -294,7 +294,7 @@ module _ (s : Setup) (depth : ℕ) (Where : Situation → Type 0) (name : Name) 
 
   pub sets : (v : Value) → Runs s depth Where [] (one_value v) no_words no_items 3 (number i ∷ call r.Set ∷ []) (change (set_variable name v))
   sets v = by_row s depth Where r.Set (number i ∷ []) 1 [] (word.I32 i ∷ []) (one_value v) no_words no_items (change (set_variable name v))
-      (λ rest below w. (word.I32 i ∷ below, refl, refl)) (λ n st k p fits.
+      (λ rest below w. (word.I32 i ∷ below, refl, refl)) (λ n st k p here fits.
       let c = changed s k p k.stack st fits (state.set by_slot i v) (state.set by_name name v)
       (set_alike s.slot s.one_slot (current k.situation.hosts p) (variables st) st.core.places fits.own name i at v) in (
         refl,
