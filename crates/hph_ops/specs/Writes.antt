@@ -1,5 +1,5 @@
 -- What a write to a variable leaves in it.
-use Rattle.std.specs.Prelude.{◌≡◌, ℕ, List, [], ◌∷◌, Option, Some, Result, Ok, Err}
+use Rattle.std.specs.Prelude.{◌≡◌, ℕ, [], ◌∷◌, Option, Some, Result, Ok, Err}
 use Rattle.hph_array.specs.Array.{Array, array_map}
 use Rattle.hph_php.specs.declared.fatal.Fatal.{Fatal}
 use Rattle.hph_php.specs.Values as php
