@@ -1,17 +1,15 @@
 -- Arrays that are closed over values, step by step.
-use Rattle.std.proofs.Common.{◌≡◌, ◌∙◌, ◌<◌, ◌≤◌, ℕ, suc, ◌+◌, add-one, get_or, length, List, [], ◌∷◌, ◌++◌, map, drop, Option, None, Some, Result, Ok, Err, refl, sym, ap}
+use Rattle.std.proofs.Common.{◌≡◌, ◌∙◌, ◌<◌, ℕ, suc, ◌+◌, add-one, get_or, length, List, [], ◌∷◌, ◌++◌, drop, Option, None, Some, Result, Ok, Err, refl, sym, ap}
 use Rattle.std.proofs.Math.Seq.{drop-cons}
-use Rattle.std.proofs.Math.ListN.{drop_of_length-le}
 use Rattle.std.specs.Option.{option_map}
 use Rattle.hph_php.specs.declared.fatal.Fatal.{Fatal}
 use Rattle.hph_php.specs.Values.{Value}
-use Rattle.hph_php.specs.State.{Heap, Object}
+use Rattle.hph_php.specs.State.{Heap}
 use Rattle.hph_php.specs.Conversions.{and_then, map_ok}
-use Rattle.hph_php.specs.Paths.{PathStep, Written, written, old_value, read_step, read_path, write_step, write_path}
+use Rattle.hph_php.specs.Paths.{PathStep, Written, read_path, write_path}
 use Rattle.hph_value.specs.declared.value.Stop.{Stop}
 use Rattle.hph_value.specs.declared.value.Stop.TheVariants as stop
 use Rattle.hph_walk.specs.declared.step.Step.{Step}
-use Rattle.hph_walk.specs.Steps.{step_of, steps_of}
 use Rattle.hph_walk_write.specs.declared.level.Level.{Level}
 use Rattle.hph_walk_write.specs.Levels.{filled, closed, written_in}
 use Rattle.hph_walk_write.specs.Writes.{IsEntered, Enters, IsOpening, IsOpened, Opens}

@@ -1,8 +1,8 @@
 -- Arrays that are open.
-use Rattle.std.proofs.Common.{◌≡◌, ◌∙◌, ℕ, Bool, true, false, List, [], ◌∷◌, map, Option, None, Some, Result, Ok, Err, refl, sym, ap}
+use Rattle.std.proofs.Common.{◌≡◌, List, Some, Ok, ap}
 use Rattle.hph_array.specs.declared.key.Key.{Key}
-use Rattle.hph_array.specs.Array.{Array, set, append, array_map}
-use Rattle.hph_php.specs.Values.{Value, array_value, array_of, paired, listed}
+use Rattle.hph_array.specs.Array.{Array, array_map}
+use Rattle.hph_php.specs.Values.{Value, array_value}
 use Rattle.hph_php.specs.Paths.{array_for_write}
 use Rattle.hph_php.proofs.ValueLaws.{list_of_pairs}
 use Rattle.hph_value.specs.declared.value.Value as code

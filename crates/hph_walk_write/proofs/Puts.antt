@@ -1,10 +1,9 @@
 -- Values that are put where others were.
-use Rattle.std.proofs.Common.{◌≡◌, ◌∙◌, ℕ, Bool, true, false, cond, List, [], ◌∷◌, map, Option, None, Some, refl, sym, ap, max}
+use Rattle.std.proofs.Common.{◌≡◌, ◌∙◌, Bool, true, false, cond, List, [], ◌∷◌, refl, ap}
 use Rattle.std.specs.Map.{set_value}
 use Rattle.hph_array.specs.declared.key.Key.{Key}
 use Rattle.hph_array.specs.Key.{key_eq}
-use Rattle.hph_array.specs.Array.{Array, put, set, append, replace, array_map}
-use Rattle.hph_array.proofs.ArrayMapLaws.{set-array_map, append-array_map, replace-array_map, get-array_map}
+use Rattle.hph_array.specs.Array.{Array, put, set, replace}
 use Rattle.hph_array.proofs.MapSteps.{same_array}
 
 module _ {V : Type 0} where

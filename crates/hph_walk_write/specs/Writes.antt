@@ -1,11 +1,10 @@
 -- What the calls answer. Steps by keys go to no object, so the answers are the same in every heap and every class.
-use Rattle.std.specs.Prelude.{◌≡◌, ℕ, List, [], ◌∷◌, Option, Result, Ok, Err}
+use Rattle.std.specs.Prelude.{◌≡◌, ℕ, List, Option, Result, Ok, Err}
 use Rattle.std.specs.Option.{option_map}
-use Rattle.hph_php.specs.declared.fatal.Fatal.{Fatal}
 use Rattle.hph_php.specs.Values.{Value}
 use Rattle.hph_php.specs.State.{Heap}
 use Rattle.hph_php.specs.Conversions.{map_ok}
-use Rattle.hph_php.specs.Paths.{PathStep, WriteBelow, Written, written, old_value, read_step, read_path, write_step, write_path}
+use Rattle.hph_php.specs.Paths.{PathStep, WriteBelow, written, old_value, read_step, read_path, write_step, write_path}
 use Rattle.hph_value.specs.declared.value.Stop.{Stop}
 use Rattle.hph_value.specs.declared.value.Stop.TheVariants.{Fatal as Fatally, NoMemory}
 use Rattle.hph_value.specs.declared.value.Value as code

@@ -1,4 +1,4 @@
-use Rattle.std.proofs.Common.{◌≡◌, ap, sym, ◌∙◌}
+use Rattle.std.proofs.Common.{ap, ◌∙◌}
 use Rattle.hph_value.specs.Shown.{value_of}
 use Rattle.hph_walk_write.specs.Writes.{place_of}
 use Rattle.hph_php.specs.Paths.{array_for_write}

@@ -1,4 +1,4 @@
-use Rattle.std.proofs.Common.{◌≡◌, ap, sym, ◌∙◌}
+use Rattle.std.proofs.Common.{ap, ◌∙◌}
 use Rattle.hph_value.specs.declared.value.Value as code
 use Rattle.hph_value.specs.declared.value.Elements.{Elements}
 use Rattle.hph_value.specs.Shown.{value_of}

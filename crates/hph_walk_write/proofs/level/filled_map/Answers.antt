@@ -1,5 +1,5 @@
-use Rattle.std.proofs.Common.{◌≡◌, ap, sym, ◌∙◌}
-use Rattle.hph_array.specs.Array.{set, append, array_map}
+use Rattle.std.proofs.Common.{ap, sym, ◌∙◌}
+use Rattle.hph_array.specs.Array.{array_map}
 use Rattle.hph_array.proofs.ArrayMapLaws.{set-array_map, append-array_map}
 use Rattle.hph_value.specs.Shown.{value_of}
 use Rattle.hph_walk_write.specs.Levels.{array_with}

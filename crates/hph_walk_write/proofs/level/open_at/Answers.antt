@@ -1,5 +1,5 @@
-use Rattle.std.proofs.Common.{◌≡◌, ap, sym, ◌∙◌}
-use Rattle.hph_array.specs.Array.{set, get, array_map}
+use Rattle.std.proofs.Common.{ap, sym, ◌∙◌}
+use Rattle.hph_array.specs.Array.{set, array_map}
 use Rattle.hph_array.proofs.ArrayMapLaws.{get-array_map, replace-array_map}
 use Rattle.hph_value.specs.declared.value.Value as code
 use Rattle.hph_value.specs.Shown.{value_of}

@@ -1,9 +1,9 @@
-use Rattle.std.proofs.Common.{◌≡◌, ◌∙◌, ◌+◌, [], ◌∷◌, List, length, drop, ap, sym, subst}
+use Rattle.std.proofs.Common.{◌+◌, List, drop, sym, subst}
 use Rattle.std.proofs.Math.ListN.{drop_of_length-le}
 use Rattle.hph_walk.specs.Steps.{steps_of, step_of}
 use Rattle.hph_walk.specs.declared.step.Step.{Step}
 use Rattle.hph_walk_write.specs.declared.level.Level.{Level}
-use Rattle.hph_walk_write.specs.Writes.{place_of, IsOpening, IsOpened}
+use Rattle.hph_walk_write.specs.Writes.{place_of, IsOpening}
 use Rattle.hph_walk_write.proofs.Closing.{next_step, opening_more, opened_all, fails_behind}
 use Rattle.hph_walk_write.proofs.opening.open.Goals as goal
 

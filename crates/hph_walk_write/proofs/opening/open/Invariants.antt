@@ -1,4 +1,4 @@
-use Rattle.std.proofs.Common.{◌≡◌, ℕ, drop, Option}
+use Rattle.std.proofs.Common.{ℕ, drop, Option}
 use Rattle.hph_php.specs.State.{Heap}
 use Rattle.hph_walk.specs.Steps.{steps_of}
 use Rattle.hph_walk_write.specs.Writes.{place_of, IsOpening}

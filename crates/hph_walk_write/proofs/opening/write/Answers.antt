@@ -1,4 +1,4 @@
-use Rattle.std.proofs.Common.{◌≡◌, ◌∙◌, Ok, ap, sym}
+use Rattle.std.proofs.Common.{◌∙◌, Ok, ap, sym}
 use Rattle.hph_php.specs.Paths.{written}
 use Rattle.hph_value.specs.Shown.{value_of}
 use Rattle.hph_walk_write.proofs.opening.write.Goals as goal

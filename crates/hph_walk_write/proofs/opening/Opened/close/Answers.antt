@@ -1,6 +1,6 @@
-use Rattle.std.proofs.Common.{◌≡◌, ◌∙◌, ap, sym, subst}
+use Rattle.std.proofs.Common.{◌∙◌, ap, sym}
 use Rattle.hph_value.specs.Shown.{value_of}
-use Rattle.hph_walk_write.specs.Levels.{closed, filled}
+use Rattle.hph_walk_write.specs.Levels.{closed}
 use Rattle.hph_walk_write.proofs.Closing.{closed-more}
 use Rattle.hph_walk_write.proofs.opening.Opened.close.Goals as goal
 
