@@ -1,5 +1,5 @@
 -- The arguments of a call.
-use Rattle.std.proofs.Common.{◌≡◌, ◌≢◌, ◌∙◌, ◌≤◌, ◌<◌, ◌+◌, ℕ, zero, suc, List, [], ◌∷◌, ◌++◌, Some, None, Bool, true, false, length, take, drop, reverse, refl, sym, ap, subst, arith, append_assoc}
+use Rattle.std.proofs.Common.{map, ◌-◌, ◌≡◌, ◌≢◌, ◌∙◌, ◌≤◌, ◌<◌, ◌+◌, ℕ, zero, suc, List, [], ◌∷◌, ◌++◌, Some, None, Bool, true, false, length, take, drop, reverse, refl, sym, ap, subst, arith, append_assoc}
 use Rattle.std.proofs.lemmas.List.{append-nil, reverse-append, length-reverse, length-take-le, reverse-reverse, map-append, take_more}
 use Rattle.std.specs.Prelude.{slice_get}
 use Rattle.std.proofs.lemmas.Option.{slice_get_within, get_or_from_slice_get}
@@ -9,7 +9,8 @@ use Rattle.hph_wasm.specs.declared.types.ValType.{ValType}
 use Rattle.hph_wasm.specs.declared.types.ValType.TheVariants.{I32, I64}
 use Rattle.hph_wasm.specs.declared.value.Value.{Value}
 use Rattle.hph_wasm.specs.declared.value.Value.TheVariants as value
-use Rattle.hph_wasm.specs.Values.{type_of, types}
+use Rattle.hph_wasm.specs.Values.{number_of, type_of, types}
+use Rattle.hph_pile.proofs.Turned.{element_turned}
 use Rattle.hph_wasm.specs.Reduction.{arguments_onto, arguments}
 
 types_reversed : (values : List Value) → types (reverse values) ≡ reverse (types values)
@@ -62,6 +63,12 @@ there params values passed e h =
     ap (λ (l : List Value). Some (record { passed = l; below = drop (length (reverse params)) values })) (append-nil (reverse (take (length (reverse params)) values))) ∙
     ap (λ (n : ℕ). Some (record { passed = reverse (take n values); below = drop n values })) size ∙
     ap (λ (l : List Value). Some (record { passed = l; below = drop (length params) values })) (sym e)
+
+get_front : {A : Type 0} (n i : ℕ) (xs : List A) → i < n → slice_get (take n xs) i ≡ slice_get xs i
+get_front zero i xs h = absurd (omega arith)
+get_front (suc n) i [] h = refl
+get_front (suc n) zero (x ∷ xs) h = refl
+get_front (suc n) (suc i) (x ∷ xs) h = get_front n i xs (omega arith)
 
 one_more : {A : Type 0} (xs : List A) (k : ℕ) (x : A) → slice_get xs k ≡ Some x → take (k + 1) xs ≡ take k xs ++ x ∷ []
 one_more xs k x e = take_more xs k x (slice_get_within xs k x e) ∙ ap (λ y. take k xs ++ y ∷ []) (get_or_from_slice_get xs k x x e)
@@ -147,3 +154,25 @@ pub held : (params : List ValType) (values : List Value) → Holds params values
     arguments params values ≡ Some (record { passed = reverse (take (length params) values); below = drop (length params) values })
 held params values (few, h) = there params values (reverse (take (length params) values)) refl
     (types_reversed (take (length params) values) ∙ (ap reverse h ∙ reverse-reverse params))
+
+-- One more number is copied.
+pub one_more_number : (stack : List Value) (own count k : ℕ) (v : Value) (numbers : List ℕ) (new : List ℕ) → count ≤ own → own ≤ length stack →
+    k < count → Some v ≡ slice_get stack (count - 1 - k) → numbers ≡ map number_of (take k (reverse (take count (take own stack)))) →
+    new ≡ numbers ++ number_of v ∷ [] → new ≡ map number_of (take (k + 1) (reverse (take count (take own stack))))
+one_more_number stack own count k v numbers new few all h at so_far more =
+    let front : take count (take own stack) ≡ take count stack = front_of_front count own stack few in
+    let size : length (take count stack) ≡ count = length-take-le count stack (omega arith) in
+    let here : slice_get (take count stack) (count - 1 - k) ≡ Some v = get_front count (count - 1 - k) stack (omega arith) ∙ sym at in
+    let turned : slice_get (reverse (take count stack)) k ≡ Some v =
+    sym (element_turned (take count stack) k (omega arith)) ∙ (ap (λ n. slice_get (take count stack) (n - 1 - k)) size ∙ here) in
+    let there : take (k + 1) (reverse (take count (take own stack))) ≡ take k (reverse (take count (take own stack))) ++ v ∷ [] =
+    ap (λ l. take (k + 1) (reverse l)) front ∙ (one_more (reverse (take count stack)) k v turned ∙
+    ap (λ l. take k (reverse l) ++ v ∷ []) (sym front)) in
+    more ∙ (ap (λ l. l ++ number_of v ∷ []) so_far ∙ (sym (map-append number_of (take k (reverse (take count (take own stack)))) (v ∷ [])) ∙
+    ap (map number_of) (sym there)))
+
+pub all_copied : (values : List Value) (count : ℕ) → count ≤ length values →
+    map number_of (take count (reverse (take count values))) ≡ map number_of (reverse (take count values))
+all_copied values count h =
+    let size : length (reverse (take count values)) ≡ count = length-reverse (take count values) ∙ length-take-le count values h in
+    ap (map number_of) (subst (λ n. take n (reverse (take count values)) ≡ reverse (take count values)) size (take-length (reverse (take count values))))
