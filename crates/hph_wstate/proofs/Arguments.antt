@@ -1,5 +1,5 @@
 -- The arguments of a call.
-use Rattle.std.proofs.Common.{map, ◌-◌, ◌≡◌, ◌≢◌, ◌∙◌, ◌≤◌, ◌<◌, ◌+◌, ℕ, zero, suc, List, [], ◌∷◌, ◌++◌, Some, None, Bool, true, false, length, take, drop, reverse, refl, sym, ap, subst, arith, append_assoc}
+use Rattle.std.proofs.Common.{map, ◌^◌, ◌-◌, ◌≡◌, ◌≢◌, ◌∙◌, ◌≤◌, ◌<◌, ◌+◌, ℕ, zero, suc, List, [], ◌∷◌, ◌++◌, Some, None, Bool, true, false, length, take, drop, reverse, refl, sym, ap, subst, arith, append_assoc}
 use Rattle.std.proofs.lemmas.List.{append-nil, reverse-append, length-reverse, length-take-le, reverse-reverse, map-append, take_more}
 use Rattle.std.specs.Prelude.{slice_get}
 use Rattle.std.proofs.lemmas.Option.{slice_get_within, get_or_from_slice_get}
@@ -9,7 +9,8 @@ use Rattle.hph_wasm.specs.declared.types.ValType.{ValType}
 use Rattle.hph_wasm.specs.declared.types.ValType.TheVariants.{I32, I64}
 use Rattle.hph_wasm.specs.declared.value.Value.{Value}
 use Rattle.hph_wasm.specs.declared.value.Value.TheVariants as value
-use Rattle.hph_wasm.specs.Values.{number_of, type_of, types}
+use Rattle.hph_wasm.specs.HostAnswers.{FitParams}
+use Rattle.hph_wasm.specs.Values.{number_of, type_of, types, width}
 use Rattle.hph_pile.proofs.Turned.{element_turned}
 use Rattle.hph_wasm.specs.Reduction.{arguments_onto, arguments}
 
@@ -155,24 +156,58 @@ pub held : (params : List ValType) (values : List Value) → Holds params values
 held params values (few, h) = there params values (reverse (take (length params) values)) refl
     (types_reversed (take (length params) values) ∙ (ap reverse h ∙ reverse-reverse params))
 
--- One more number is copied.
-pub one_more_number : (stack : List Value) (own count k : ℕ) (v : Value) (numbers : List ℕ) (new : List ℕ) → count ≤ own → own ≤ length stack →
-    k < count → Some v ≡ slice_get stack (count - 1 - k) → numbers ≡ map number_of (take k (reverse (take count (take own stack)))) →
-    new ≡ numbers ++ number_of v ∷ [] → new ≡ map number_of (take (k + 1) (reverse (take count (take own stack))))
-one_more_number stack own count k v numbers new few all h at so_far more =
-    let front : take count (take own stack) ≡ take count stack = front_of_front count own stack few in
-    let size : length (take count stack) ≡ count = length-take-le count stack (omega arith) in
-    let here : slice_get (take count stack) (count - 1 - k) ≡ Some v = get_front count (count - 1 - k) stack (omega arith) ∙ sym at in
-    let turned : slice_get (reverse (take count stack)) k ≡ Some v =
-    sym (element_turned (take count stack) k (omega arith)) ∙ (ap (λ n. slice_get (take count stack) (n - 1 - k)) size ∙ here) in
-    let there : take (k + 1) (reverse (take count (take own stack))) ≡ take k (reverse (take count (take own stack))) ++ v ∷ [] =
-    ap (λ l. take (k + 1) (reverse l)) front ∙ (one_more (reverse (take count stack)) k v turned ∙
-    ap (λ l. take k (reverse l) ++ v ∷ []) (sym front)) in
-    more ∙ (ap (λ l. l ++ number_of v ∷ []) so_far ∙ (sym (map-append number_of (take k (reverse (take count (take own stack)))) (v ∷ [])) ∙
-    ap (map number_of) (sym there)))
+-- ---- numbers of arguments
 
-pub all_copied : (values : List Value) (count : ℕ) → count ≤ length values →
-    map number_of (take count (reverse (take count values))) ≡ map number_of (reverse (take count values))
-all_copied values count h =
-    let size : length (reverse (take count values)) ≡ count = length-reverse (take count values) ∙ length-take-le count values h in
-    ap (map number_of) (subst (λ n. take n (reverse (take count values)) ≡ reverse (take count values)) size (take-length (reverse (take count values))))
+fit_more : (ts : List ValType) (ns : List ℕ) (t : ValType) (n : ℕ) → FitParams ts ns → n < 2 ^ width t → FitParams (ts ++ t ∷ []) (ns ++ n ∷ [])
+fit_more [] [] t n f h = (h, tt)
+fit_more [] (k ∷ ns) t n f h = absurd f
+fit_more (u ∷ ts) [] t n f h = absurd f
+fit_more (u ∷ ts) (k ∷ ns) t n f h = (f.0, fit_more ts ns t n f.1 h)
+
+type_at : (values : List Value) (k : ℕ) (v : Value) → slice_get values k ≡ Some v → slice_get (types values) k ≡ Some (type_of v)
+type_at [] k v e = let no : ⊥ = cc in absurd no
+type_at (w ∷ values) zero v e = let same : w ≡ v = cc in ap (λ x. Some (type_of x)) same
+type_at (w ∷ values) (suc k) v e = type_at values k v e
+
+module _ (stack : List Value) (own : ℕ) (params : List ValType) (few : own ≤ length stack) (holds : Holds params (take own stack) true) where
+  abbrev passed : List Value
+  passed = reverse (take (length params) (take own stack))
+
+  enough : length params ≤ own
+  enough = let whole = length-take-le own stack few in let held = holds.0 in omega arith
+
+  size : length passed ≡ length params
+  size = length-reverse (take (length params) (take own stack)) ∙ length-take-le (length params) (take own stack) holds.0
+
+  typed : types passed ≡ params
+  typed = types_reversed (take (length params) (take own stack)) ∙ (ap reverse holds.1 ∙ reverse-reverse params)
+
+  argument_at : (k : ℕ) (v : Value) → k < length params → Some v ≡ slice_get stack (length params - 1 - k) → slice_get passed k ≡ Some v
+  argument_at k v h at =
+      let front : take (length params) (take own stack) ≡ take (length params) stack = front_of_front (length params) own stack enough in
+      let long : length (take (length params) stack) ≡ length params = let held = enough in length-take-le (length params) stack (omega arith) in
+      let here : slice_get (take (length params) stack) (length params - 1 - k) ≡ Some v =
+      get_front (length params) (length params - 1 - k) stack (omega arith) ∙ sym at in
+      ap (λ l. slice_get (reverse l) k) front ∙ (sym (element_turned (take (length params) stack) k (omega arith)) ∙
+      (ap (λ n. slice_get (take (length params) stack) (n - 1 - k)) long ∙ here))
+
+  pub one_more_number : (k n : ℕ) (v : Value) (numbers new : List ℕ) → k < length params → Some v ≡ slice_get stack (length params - 1 - k) →
+      n ≡ number_of v → n < 2 ^ width (type_of v) → new ≡ numbers ++ n ∷ [] →
+      (numbers ≡ map number_of (take k (reverse (take (length params) (take own stack))))) × FitParams (take k params) numbers →
+      (new ≡ map number_of (take (k + 1) (reverse (take (length params) (take own stack))))) × FitParams (take (k + 1) params) new
+  one_more_number k n v numbers new h at is fits more (so_far, fit) =
+      let there : slice_get passed k ≡ Some v = argument_at k v h at in
+      let kind : slice_get params k ≡ Some (type_of v) = ap (λ l. slice_get l k) (sym typed) ∙ type_at passed k v there in (
+        more ∙ (ap (λ l. l ++ n ∷ []) so_far ∙ (ap (λ n. map number_of (take k passed) ++ n ∷ []) is ∙
+            (sym (map-append number_of (take k passed) (v ∷ [])) ∙ ap (map number_of) (sym (one_more passed k v there))))),
+        subst (λ l. FitParams (take (k + 1) params) l) (sym more)
+            (subst (λ l. FitParams l (numbers ++ n ∷ [])) (sym (one_more params k (type_of v) kind)) (fit_more (take k params) numbers (type_of v) n fit fits)),
+      )
+
+  pub all_numbers : (k : ℕ) (numbers : List ℕ) → k ≡ length params →
+      (numbers ≡ map number_of (take k (reverse (take (length params) (take own stack))))) × FitParams (take k params) numbers →
+      (numbers ≡ map number_of (reverse (take (length params) (take own stack)))) × FitParams params numbers
+  all_numbers k numbers e (so_far, fit) = (
+    so_far ∙ ap (map number_of) (ap (λ n. take n passed) (e ∙ sym size) ∙ take-length passed),
+    subst (λ l. FitParams l numbers) (ap (λ n. take n params) e ∙ take-length params) fit,
+  )

@@ -1,6 +1,7 @@
 //! What a run has at hand between two reductions, without the host.
-ghost use Rattle.std.specs.Prelude.{◌≡◌, [], ◌∷◌, ◌++◌, length, map, take, drop, reverse, slice_get, ◌<◌, option_to_list, ◌≤◌, MatchOption, OnOk, IfOk};
-ghost use Rattle.hph_wasm.specs.Values.{number_of, type_of};
+ghost use Rattle.std.specs.Prelude.{◌≡◌, ◌^◌, true, [], ◌∷◌, ◌++◌, length, map, take, drop, reverse, slice_get, ◌<◌, option_to_list, ◌≤◌, MatchOption, OnOk, IfOk};
+ghost use Rattle.hph_wasm.specs.Values.{number_of, type_of, width};
+ghost use Rattle.hph_wasm.specs.HostAnswers.{FitParams};
 ghost use Rattle.hph_wstate.specs.Core.{label_around, continuation_of, code_behind, Counts};
 ghost use Rattle.hph_wstate.specs.Changes.{Outside, Skipped, Left, TellsLabel, LabelIs, TellsFrame, FunctionIs, Entered, LocalSet, GlobalSet, MemoryStored, KindFits, AllFit, Holds, Kept};
 
@@ -74,7 +75,8 @@ fn kind_of(value: Value) -> ValType
 
 /// The number of a value.
 fn number_of(value: Value) -> u64
-    ensures { result ≡ number_of value }
+    ensures number { result ≡ number_of value }
+    ensures fits { result < 2 ^ width (type_of value) }
 {
     match value {
         Value::I32(n) => u64::from(n),
@@ -500,12 +502,14 @@ impl<'m> Machine<'m> {
         self.own -= count;
     }
 
-    /// Copies the numbers of so many values from the top on, the lowest of them first.
-    pub fn copy_numbers(&self, count: usize, numbers: &mut Vec<u64>) -> Result<(), AllocError>
-        requires { count ≤ length (core self.now).values }
-        ensures { OnOk result (numbers.new.items ≡ map number_of (reverse (take count (core self.now).values))) }
+    /// Copies the numbers of the arguments for these parameters, the first one first.
+    pub fn copy_numbers(&self, params: &[ValType], numbers: &mut Vec<u64>) -> Result<(), AllocError>
+        requires { Holds params.now (core self.now).values true }
+        ensures numbers { OnOk result (numbers.new.items ≡ map number_of (reverse (take (length params.now) (core self.now).values))) }
+        ensures fit { OnOk result (FitParams params.now numbers.new.items) }
     {
         numbers.clear();
+        let count = params.len();
         for k in 0..count {
             match self.values.at(count - 1 - k) {
                 Some(value) => numbers.push(number_of(*value))?,
