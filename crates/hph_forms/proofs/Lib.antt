@@ -1,3 +1,4 @@
 pub mod Lists
 pub mod Objects
 pub mod Walks
+pub mod PathRows
