@@ -2,3 +2,5 @@ pub mod Lists
 pub mod Objects
 pub mod Walks
 pub mod PathRows
+pub mod Pins
+pub mod Tries

@@ -42,8 +42,11 @@ use Rattle.hph_forms.proofs.Walks.{walked_is, class_is, stores}
 
 -- the item of a value that is there
 abbrev pub if_there : Option Value → List Item
-if_there None = []
-if_there (Some v) = a_value v ∷ []
+if_there o = option_map_or (λ v. a_value v ∷ []) o []
+
+-- the value, or what else lies there
+abbrev pub there_or : List Item → Option Value → List Item
+there_or left o = option_map_or (λ v. a_value v ∷ []) o left
 
 abbrev pub is_there : Option Value → List Word
 is_there o = as_word (is_some o)
@@ -76,15 +79,15 @@ module _ (s : Setup) (depth : ℕ) (item : Item) (base : Base) (steps : List Pat
 
   -- what is found where it is asked for, beside what lies there if nothing is
   found_or : (k : Around) (p : Places) (n : ℕ) (st : State) (left : List Item) (o : Option Value) → Fits s k.situation p st.frames st.globals st.core.heap →
-      Replies s k (I32 ∷ []) is_there (λ o. option_map_or (λ v. a_value v ∷ []) o left) n (if_set o (host_of k p (left ++ k.stack) st) (host_of k p k.stack st)) (Gets o n st)
+      Replies s k (I32 ∷ []) is_there (there_or left) n (if_set o (host_of k p (left ++ k.stack) st) (host_of k p k.stack st)) (Gets o n st)
   found_or k p n st left None fits = (refl, record { places = p; result = Some 0; fits = fits; is = refl; typed = refl })
   found_or k p n st left (Some v) fits = (refl, record { places = p; result = Some 1; fits = fits; is = refl; typed = refl })
 
   abbrev tries_at : State → Option Value
   tries_at st = option_map_or (λ v. try_path st.core.heap s.class v steps) (at_base base st) None
 
-  pub tries : Runs s depth Here [] path_items is_there (λ o. option_map_or (λ v. a_value v ∷ []) o []) 3 (steps_number ∷ call r.PathTry ∷ []) (try_from s.class base steps)
-  tries = by_row s depth Here r.PathTry (steps_number ∷ []) 1 [] (word.I32 (length steps) ∷ []) path_items is_there (λ o. option_map_or (λ v. a_value v ∷ []) o [])
+  pub tries : Runs s depth Here [] path_items is_there if_there 3 (steps_number ∷ call r.PathTry ∷ []) (try_from s.class base steps)
+  tries = by_row s depth Here r.PathTry (steps_number ∷ []) 1 [] (word.I32 (length steps) ∷ []) path_items is_there if_there
       (try_from s.class base steps)
       (λ rest below at. (word.I32 (length steps) ∷ below, refl, refl)) (λ n st k p here fits.
           let h : HostState = host_of k p k.stack st in
@@ -92,13 +95,13 @@ module _ (s : Setup) (depth : ℕ) (item : Item) (base : Base) (steps : List Pat
               = ap (λ stack. paths.path_try (length steps) (host_of k p stack st)) (regrouped k)
               ∙ walked_is s k p st fits item base steps here (λ base steps place h. tested h base steps place h)
               ∙ ap (λ class. if_set (tried steps (at_base base st) h class) h h) (class_is s k p st fits) in
-          subst (λ reply. Replies s k (I32 ∷ []) is_there (λ o. option_map_or (λ v. a_value v ∷ []) o []) n reply (try_from s.class base steps n st)) (sym e)
+          subst (λ reply. Replies s k (I32 ∷ []) is_there if_there n reply (try_from s.class base steps n st)) (sym e)
           (found_or k p n st [] (tries_at st) fits))
 
   -- the path stays where nothing is set
-  pub keeps : Runs s depth Here [] path_items is_there (λ o. option_map_or (λ v. a_value v ∷ []) o path_items) 3 (steps_number ∷ call r.PathKeep ∷ [])
+  pub keeps : Runs s depth Here [] path_items is_there (there_or path_items) 3 (steps_number ∷ call r.PathKeep ∷ [])
       (try_from s.class base steps)
-  keeps = by_row s depth Here r.PathKeep (steps_number ∷ []) 1 [] (word.I32 (length steps) ∷ []) path_items is_there (λ o. option_map_or (λ v. a_value v ∷ []) o path_items)
+  keeps = by_row s depth Here r.PathKeep (steps_number ∷ []) 1 [] (word.I32 (length steps) ∷ []) path_items is_there (there_or path_items)
       (try_from s.class base steps)
       (λ rest below at. (word.I32 (length steps) ∷ below, refl, refl)) (λ n st k p here fits.
           let h : HostState = host_of k p k.stack st in
@@ -107,7 +110,7 @@ module _ (s : Setup) (depth : ℕ) (item : Item) (base : Base) (steps : List Pat
               = ap (λ stack. walked (length steps) (host_of k p stack st) (tested whole)) (regrouped k)
               ∙ walked_is s k p st fits item base steps here (tested whole)
               ∙ ap (λ class. if_set (tried steps (at_base base st) h class) whole h) (class_is s k p st fits) in
-          subst (λ reply. Replies s k (I32 ∷ []) is_there (λ o. option_map_or (λ v. a_value v ∷ []) o path_items) n reply (try_from s.class base steps n st)) (sym e)
+          subst (λ reply. Replies s k (I32 ∷ []) is_there (there_or path_items) n reply (try_from s.class base steps n st)) (sym e)
           (found_or k p n st path_items (tries_at st) fits))
 
   -- ---- writing
