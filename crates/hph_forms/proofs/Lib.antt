@@ -4,3 +4,4 @@ pub mod Walks
 pub mod PathRows
 pub mod Pins
 pub mod Tries
+pub mod Sets
