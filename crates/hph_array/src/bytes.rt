@@ -1,4 +1,5 @@
-ghost use Rattle.std.specs.Prelude.{◌≡◌, ◌==◌, IfOk, IfErr, length};
+ghost use Rattle.std.specs.Prelude.{◌≡◌, ◌==◌, IfOk, IfErr, IfSome, length};
+ghost use Rattle.std.specs.Borrow.{sem};
 ghost use Rattle.std.specs.Str.{bytes_eq};
 ghost use Rattle.std.specs.Cmp as Cmp;
 ghost use Rattle.std.specs.Cmp.Lexicographic.{nat_list_eq_equiv};
@@ -25,6 +26,8 @@ impl Model for Bytes {
 }
 
 impl Bytes {
+    ghost use Rattle.hph_array.specs.Lends.{lends_buffer};
+
     /// The byte string of a buffer, which isn't copied.
     pub fn new(alloc: Global, bytes: Vec<u8>) -> Result<Bytes, AllocError>
         ensures { IfOk result (λ string. string ≡ bytes.items) }
@@ -38,6 +41,14 @@ impl Bytes {
         ensures { IfOk result (λ string. string ≡ bytes.now) }
     {
         Bytes::new(alloc, Vec::from_slice(alloc, bytes)?)
+    }
+
+    /// Its buffer, to be written in its place, if nothing else shares it.
+    pub fn get_mut(&mut self) -> Option<&mut Vec<u8>>
+        ensures* writes_back { sem 𝓛 (lends_buffer self.entry result) }
+        ensures value { IfSome result (λ buffer. buffer.now.items ≡ self.old) }
+    {
+        Rc::get_mut(&mut self.shared)
     }
 
     /// Its buffer, if nothing else shares it, so that it can be written; else the byte string itself.

@@ -6,6 +6,7 @@ ghost use Rattle.std.specs.Set.{remove_key};
 ghost use Rattle.hph_array.specs.Key.{key_eq};
 ghost use Rattle.hph_array.specs.Keys.{RiseFrom};
 
+use crate::copies::copied_with_room;
 use crate::key::Key;
 use indexmap::IndexSet;
 use std::alloc::{AllocError, Global};
@@ -113,6 +114,17 @@ impl Keys {
         }
     }
 
+    /// A copy with room for some more keys, where no index is kept.
+    pub(crate) fn copy_with_room(&self, more: usize) -> Result<Keys, AllocError>
+        ensures { IfOk result (λ copy. copy ≡ self.now) }
+    {
+        let form = match &self.form {
+            Form::Rising(keys) => Form::Rising(copy_rising(keys, more)?),
+            Form::Indexed(keys) => Form::Indexed(copy_indexed(keys)?),
+        };
+        Ok(Keys { form })
+    }
+
     /// Removes the last key and gives it.
     pub(crate) fn pop(&mut self) -> Option<Key>
         ensures keys { self.old ≡ self.new ++ option_to_list result }
@@ -123,18 +135,6 @@ impl Keys {
             Form::Rising(keys) => keys.pop(),
             Form::Indexed(keys) => keys.pop(),
         }
-    }
-}
-
-impl Clone for Keys {
-    ghost is_clone = { λ keys copy. copy ≡ keys };
-
-    fn clone(&self) -> Result<Keys, AllocError> {
-        let form = match &self.form {
-            Form::Rising(keys) => Form::Rising(copy_rising(keys)?),
-            Form::Indexed(keys) => Form::Indexed(copy_indexed(keys)?),
-        };
-        Ok(Keys { form })
     }
 }
 
@@ -187,7 +187,7 @@ fn indexed_with(keys: &Vec<Key>, key: Key) -> Result<Box<IndexSet<Key>>, AllocEr
     requires new { list_any (key_eq key) keys.now.items ≡ false }
     ensures { IfOk result (λ index. index.value.keys ≡ keys.now.items ++ key ∷ []) }
 {
-    let copy = copy_rising(keys)?;
+    let copy = copy_rising(keys, 0)?;
     let mut index = IndexSet::from_iter(*keys.allocator(), copy)?;
     index.insert(key)?;
     Ok(Box::new(*keys.allocator(), index)?)
@@ -213,11 +213,11 @@ fn remove_indexed(keys: &mut IndexSet<Key>, key: &Key) -> Option<usize>
     Some(place)
 }
 
-// A copy of keys that rise.
-fn copy_rising(keys: &Vec<Key>) -> Result<Vec<Key>, AllocError>
+// A copy of keys that rise, with room for some more.
+fn copy_rising(keys: &Vec<Key>, more: usize) -> Result<Vec<Key>, AllocError>
     ensures { IfOk result (λ copy. copy.items ≡ keys.now.items) }
 {
-    keys.clone()
+    copied_with_room(*keys.allocator(), keys, more)
 }
 
 // A copy of keys and their index.

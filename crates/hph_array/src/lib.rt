@@ -6,6 +6,7 @@
 #![tactic(auto)]
 
 mod bytes;
+mod copies;
 mod key;
 mod keys;
 mod map;

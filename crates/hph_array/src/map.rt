@@ -5,6 +5,7 @@ ghost use Rattle.std.specs.Map.{values_of};
 ghost use Rattle.hph_array.specs.Key.{key_eq};
 ghost use Rattle.hph_array.specs.Array.{IsArray, get, set, append, unset, replace, last, pop, fallen};
 
+use crate::copies::copied_with_room;
 use crate::key::Key;
 use crate::keys::Keys;
 use std::alloc::{AllocError, Global};
@@ -196,9 +197,19 @@ impl<V: Drop + Clone> OrdMap<V> {
         requires { (x y : V) → V.is_clone x y → y ≡ x }
         ensures { IfOk result (λ copy. copy ≡ self.now) }
     {
+        self.copy_with_room(0)
+    }
+
+    /// The same, with room for some more pairs where the array is a list, so that as many appends don't move the others.
+    pub fn copy_with_room(&self, more: usize) -> Result<OrdMap<V>, AllocError>
+        requires { (x y : V) → V.is_clone x y → y ≡ x }
+        ensures { IfOk result (λ copy. copy ≡ self.now) }
+    {
+        let keys = self.keys.copy_with_room(more)?;
+        let values = copied_with_room(*self.values.allocator(), &self.values, more)?;
         Ok(OrdMap {
-            keys: self.keys.clone()?,
-            values: self.values.clone()?,
+            keys,
+            values,
             next: self.next,
         })
     }

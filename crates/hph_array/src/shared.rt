@@ -1,4 +1,5 @@
-ghost use Rattle.std.specs.Prelude.{◌≡◌, IfOk, IfErr};
+ghost use Rattle.std.specs.Prelude.{◌≡◌, IfOk, IfErr, IfSome};
+ghost use Rattle.std.specs.Borrow.{sem};
 
 use std::alloc::{AllocError, Global};
 use std::marker::Model;
@@ -19,11 +20,21 @@ impl<T> Model for Shared<T> {
 }
 
 impl<T> Shared<T> {
+    ghost use Rattle.hph_array.specs.Lends.{lends_value};
+
     /// The value.
     pub fn get(&self) -> &T
         ensures { result.now ≡ self.now }
     {
         self.inner.as_ref()
+    }
+
+    /// The value, to be written in its place, if this is its only owner.
+    pub fn get_mut(&mut self) -> Option<&mut T>
+        ensures* writes_back { sem 𝓛 (lends_value T.row self.entry result) }
+        ensures value { IfSome result (λ value. value.now ≡ self.old) }
+    {
+        Rc::get_mut(&mut self.inner)
     }
 
     /// The value itself if this is its only owner, else this owner.

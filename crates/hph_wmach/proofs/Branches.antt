@@ -12,14 +12,16 @@ use Rattle.hph_wasm.specs.Configuration.{Host, Label, Frame, Setting, Configurat
 use Rattle.hph_wasm.specs.Reduction.{step, after_call, after_return, return_step, branch_step}
 use Rattle.std.proofs.lemmas.List.{append-nil}
 use Rattle.hph_wasm.proofs.Rows.{step-loop}
-use Rattle.hph_wmach.specs.declared.layers.Side.TheVariants.{Loop}
-use Rattle.hph_wmach.specs.Core.{Core, count, label_around}
+use Rattle.hph_wstate.specs.declared.layers.Side.TheVariants.{Loop}
+use Rattle.hph_wstate.specs.Core.{Core, count, label_around}
 use Rattle.std.proofs.Common.{◌⊎◌, inl, inr, ◌≢◌, ◌-◌, get_or}
 use Rattle.std.proofs.Math.Seq.{take-length}
 use Rattle.hph_wasm.specs.Reduction.{end_of_code, end_of_function}
 use Rattle.hph_wmach.specs.declared.next.Next.{Next}
 use Rattle.hph_wmach.specs.declared.next.Next.TheVariants.{Goes, Calls, Branches, Traps, Ends, NoMemory}
-use Rattle.hph_wmach.specs.Reached.{Stood, Outside, Left, TellsLabel, TellsFrame, Kept, store_of, setting, running, Reached, ReachedOn}
+use Rattle.hph_wstate.specs.Changes.{Outside, Left, TellsLabel, TellsFrame, Kept}
+use Rattle.hph_wstate.specs.Standing.{store_of, setting, running}
+use Rattle.hph_wmach.specs.Reached.{Stood, Reached, ReachedOn}
 
 module _ {H E : Type 0} (host : Host H E) (m : Module) where
   pub loop_done : (ty : BlockType) (body code here : List Instr) (values : List Value) (at : Setting H) → here ≡ view.Loop ty body ∷ code →

@@ -13,11 +13,13 @@ use Rattle.hph_wasm.specs.Blocks.{else_list, else_list_size}
 use Rattle.hph_wasm.specs.Configuration.{Host, Label, Setting, Configuration, Running, Stuck}
 use Rattle.hph_wasm.specs.Reduction.{step, arity_of}
 use Rattle.hph_wasm.proofs.Rows.{step-if, listed-size}
-use Rattle.hph_wmach.specs.declared.layers.Side.TheVariants.{Then, Else}
+use Rattle.hph_wstate.specs.declared.layers.Side.TheVariants.{Then, Else}
 use Rattle.hph_wmach.specs.declared.next.Next.{Next}
 use Rattle.hph_wmach.specs.declared.next.Next.TheVariants.{Goes, Calls, Branches, Traps, Ends, NoMemory}
-use Rattle.hph_wmach.specs.Core.{Core, count, after_of, label_around}
-use Rattle.hph_wmach.specs.Reached.{HasNo, Popped, EntersBlock, setting, Reached}
+use Rattle.hph_wstate.specs.Core.{Core, count, after_of, label_around}
+use Rattle.hph_wstate.specs.Changes.{HasNo, Popped}
+use Rattle.hph_wstate.specs.Standing.{setting}
+use Rattle.hph_wmach.specs.Reached.{EntersBlock, Reached}
 
 result_count : (o : Option ValType) → count (is_some o) ≡ arity_of (record { result = o })
 result_count None = refl

@@ -11,7 +11,7 @@ use Rattle.hph_wasm.specs.Reduction.{entry_call}
 use Rattle.hph_wmach.specs.declared.program.Callee.{Callee}
 use Rattle.hph_wmach.specs.declared.program.Callee.TheVariants.{Own, OfHost}
 use Rattle.hph_wmach.specs.declared.program.Program.{Program}
-use Rattle.hph_wmach.specs.Core.{count}
+use Rattle.hph_wstate.specs.Core.{count}
 
 -- The type of a function.
 abbrev pub type_of_callee : Callee → FuncType

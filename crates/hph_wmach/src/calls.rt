@@ -2,16 +2,15 @@
 ghost use Rattle.std.specs.Prelude.{◌≡◌, Some, length, slice_get};
 ghost use Rattle.hph_wasm.specs.Functions.{Defined, functions};
 ghost use Rattle.hph_wasm.specs.declared.module.Module.{Module};
-ghost use Rattle.hph_wmach.specs.Core.{count};
-ghost use Rattle.hph_wmach.specs.Machine.{core};
+ghost use Rattle.hph_wstate.specs.Core.{count};
+ghost use Rattle.hph_wstate.specs.Machine.{core};
 ghost use Rattle.hph_wmach.specs.Program.{Tells};
 ghost use Rattle.hph_wmach.specs.Reached.{InvokedIn, StepsIn};
 
-use crate::machine::Machine;
 use crate::next::Next;
-use crate::pops::pop_i32;
 use crate::program::{OwnFunction, Program};
 use hph_wasm::{Host, Instr};
+use hph_wstate::{Machine, pop_i32};
 use std::alloc::Global;
 
 /// `call_indirect`.

@@ -1,16 +1,15 @@
 //! Structured control instructions (Core Specification 1.0, 4.4.5), but for calls.
 ghost use Rattle.std.specs.Prelude.{◌≡◌, ◌<◌, ◌+◌, [], ◌∷◌, length, drop, Some, slice_index_or};
 ghost use Rattle.hph_wasm.specs.declared.instr.Instr.TheViews as view;
-ghost use Rattle.hph_wmach.specs.Machine.{core};
+ghost use Rattle.hph_wstate.specs.Machine.{core};
 ghost use Rattle.hph_wasm.specs.Blocks.{else_list};
-ghost use Rattle.hph_wmach.specs.Reached.{EntersBlock, TellsLabel, BehindCall, LeftOn, Steps, Branched, GivenBack, Closed};
-ghost use Rattle.hph_wmach.specs.Core.{count, label_around};
+ghost use Rattle.hph_wstate.specs.Changes.{TellsLabel};
+ghost use Rattle.hph_wmach.specs.Reached.{EntersBlock, BehindCall, LeftOn, Steps, Branched, GivenBack, Closed};
+ghost use Rattle.hph_wstate.specs.Core.{count, label_around};
 
-use crate::layers::Side;
-use crate::machine::Machine;
 use crate::next::Next;
-use crate::pops::pop_i32;
 use hph_wasm::{BlockType, Host, Instr};
+use hph_wstate::{Machine, Side, pop_i32};
 use sqlite_items::{Items, at};
 
 /// `block`.

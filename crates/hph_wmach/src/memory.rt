@@ -2,15 +2,14 @@
 ghost use Rattle.std.specs.Prelude.{◌≡◌, ◌<◌, ◌≤◌, ◌^◌, ◌*◌};
 ghost use Rattle.hph_wasm.specs.Memory.{byte_width, load_bytes, narrow_value, store_bytes, store_type};
 ghost use Rattle.hph_integers.specs.Accesses.{byte_count};
-ghost use Rattle.hph_wmach.specs.Machine.{core};
+ghost use Rattle.hph_wstate.specs.Machine.{core};
 ghost use Rattle.hph_wmach.specs.Reached.{Steps};
 
-use crate::machine::Machine;
 use crate::next::Next;
 use crate::numeric::put;
-use crate::pops::{pop_i32, pop_i64};
 use hph_integers::{Access, extended_i32, extended_i64, load};
 use hph_wasm::{Host, Instr, MemArg, NarrowLoad, NarrowStore, ValType, Value};
+use hph_wstate::{Machine, pop_i32, pop_i64};
 
 /// `i32.load`.
 fn load_i32<H: Host>(machine: &mut Machine<'_>, arg: MemArg) -> Next

@@ -1,17 +1,16 @@
 //! Numeric instructions (Core Specification 1.0, 4.4.1).
 ghost use Rattle.std.specs.Prelude.{◌≡◌, ◌∷◌};
 ghost use Rattle.hph_wasm.specs.Integers.{truth};
-ghost use Rattle.hph_wmach.specs.Machine.{core};
+ghost use Rattle.hph_wstate.specs.Machine.{core};
 ghost use Rattle.hph_wmach.specs.Reached.{Pushes, Steps};
 
-use crate::machine::Machine;
 use crate::next::Next;
-use crate::pops::{pop_i32, pop_i64};
 use hph_integers::{
     binary_i32, binary_i64, comparison_i32, comparison_i64, extended_i64, unary_i32, unary_i64,
     wrapped_i32,
 };
 use hph_wasm::{Binary, Comparison, Host, Instr, Sign, Unary, ValType, Value};
+use hph_wstate::{Machine, pop_i32, pop_i64};
 
 /// Puts a value on top.
 pub fn put(machine: &mut Machine<'_>, value: Value) -> Next

@@ -1,13 +1,12 @@
 //! One reduction (Core Specification 1.0, 4.4), but for the second ones of calls and branches.
 ghost use Rattle.std.specs.Prelude.{◌≡◌, ◌∷◌};
 ghost use Rattle.hph_wasm.specs.declared.module.Module.{Module};
-ghost use Rattle.hph_wmach.specs.Machine.{core};
+ghost use Rattle.hph_wstate.specs.Machine.{core};
 ghost use Rattle.hph_wmach.specs.Program.{Tells};
 ghost use Rattle.hph_wmach.specs.Reached.{StepsIn, SteppedIn, Stood};
 
 use crate::calls::call_indirect;
 use crate::control::{again, block, branch_if, branch_now, branch_table, end, if_else, return_now};
-use crate::machine::Machine;
 use crate::memory::{load_narrow, load_whole, store_narrow, store_whole};
 use crate::next::Next;
 use crate::numeric::{combine, compare, extend, is_zero, operate, wrap};
@@ -17,6 +16,7 @@ use crate::variables::{
     set_local, tee_local, trap,
 };
 use hph_wasm::{Host, Instr};
+use hph_wstate::Machine;
 
 /// An instruction, which stands first here.
 fn run_one<'m, H: Host>(

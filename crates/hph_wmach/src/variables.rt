@@ -1,11 +1,10 @@
 //! Parametric and variable instructions, and constants (Core Specification 1.0, 4.4.1 to 4.4.3).
-ghost use Rattle.hph_wmach.specs.Machine.{core};
+ghost use Rattle.hph_wstate.specs.Machine.{core};
 ghost use Rattle.hph_wmach.specs.Reached.{Steps};
 
-use crate::machine::Machine;
 use crate::next::Next;
-use crate::pops::pop_i32;
 use hph_wasm::{Host, Instr, Value};
+use hph_wstate::{Machine, pop_i32};
 
 /// `i32.const`.
 pub fn const_i32<H: Host>(machine: &mut Machine<'_>, z: &i32) -> Next

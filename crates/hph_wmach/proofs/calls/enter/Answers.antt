@@ -1,5 +1,5 @@
 use Rattle.std.proofs.Common.{refl, inr}
-use Rattle.hph_wmach.specs.Machine.{core}
+use Rattle.hph_wstate.specs.Machine.{core}
 use Rattle.hph_wmach.proofs.Arguments.{entered_told, refused_told, never_short}
 use Rattle.hph_wmach.proofs.calls.enter.Goals as goal
 

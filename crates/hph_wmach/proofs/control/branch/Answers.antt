@@ -1,4 +1,4 @@
-use Rattle.hph_wmach.specs.Machine.{core}
+use Rattle.hph_wstate.specs.Machine.{core}
 use Rattle.hph_wmach.proofs.Branches.{branch_out_done, branch_past_done}
 use Rattle.hph_wmach.proofs.control.branch.Goals as goal
 

@@ -1,4 +1,4 @@
-use Rattle.hph_wmach.specs.Machine.{core}
+use Rattle.hph_wstate.specs.Machine.{core}
 use Rattle.hph_wmach.proofs.Branches.{branch_short_done, branch_done, there_kept}
 use Rattle.hph_wmach.proofs.control.branch_inside.Goals as goal
 

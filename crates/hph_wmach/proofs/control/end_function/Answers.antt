@@ -1,5 +1,5 @@
 use Rattle.std.proofs.Common.{◌∙◌}
-use Rattle.hph_wmach.specs.Machine.{core}
+use Rattle.hph_wstate.specs.Machine.{core}
 use Rattle.hph_wmach.proofs.Branches.{end_function_done}
 use Rattle.hph_wmach.proofs.control.end_function.Goals as goal
 

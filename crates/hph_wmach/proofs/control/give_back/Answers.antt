@@ -1,4 +1,4 @@
-use Rattle.hph_wmach.specs.Machine.{core}
+use Rattle.hph_wstate.specs.Machine.{core}
 use Rattle.hph_wmach.proofs.Branches.{give_back_done}
 use Rattle.hph_wmach.proofs.control.give_back.Goals as goal
 

@@ -1,4 +1,4 @@
-use Rattle.hph_wmach.specs.Machine.{core}
+use Rattle.hph_wstate.specs.Machine.{core}
 use Rattle.hph_wmach.proofs.Branches.{step_end, step_first, no_code, first_code}
 use Rattle.hph_wmach.proofs.reduction.step.Goals as goal
 

@@ -1,0 +1,5 @@
+pub mod Types
+pub mod Asks
+pub mod Graph
+pub mod System
+pub mod Plain

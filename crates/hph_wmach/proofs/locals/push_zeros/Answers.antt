@@ -1,7 +1,0 @@
-use Rattle.hph_wmach.proofs.Zeros.{zeros_more}
-use Rattle.std.proofs.Common.{◌∙◌, ap, ◌++◌, ◌∷◌, []}
-use Rattle.hph_wmach.proofs.locals.push_zeros.Goals as goal
-
-pub loop-k-preserved : goal.loop-k-preserved
-loop-k-preserved c = zeros_more _ _ _ _ _ _ c.in-Some.ensures c.zero.ensures
-    (c.in_ok-push-in-Some.ensures.ok ∙ ap (λ l. l ++ c.zero.result ∷ []) c.loop-k.invariant)

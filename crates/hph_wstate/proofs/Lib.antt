@@ -1,0 +1,4 @@
+pub mod Standing
+pub mod Zeros
+pub mod Kept
+pub mod Arguments
