@@ -1,6 +1,6 @@
 -- What literals name.
-use Rattle.std.specs.Prelude.{◌≡◌, ℕ, Bool, true, false, ◌&&◌, List, [], ◌∷◌, ◌++◌, map, filter_map, flat_map, length, Option, Some, None, Result, IfOk, refl, if◌then◌else◌, ◌==◌, String, MatchOption}
-use Rattle.std.proofs.Common.{ap, sym, subst, ◌∙◌, arith, take, get_or, ◌+◌, ◌<◌}
+use Rattle.std.specs.Prelude.{◌≡◌, ℕ, Bool, true, false, ◌&&◌, List, [], ◌∷◌, ◌++◌, map, filter_map, flat_map, length, Option, Some, None, Result, IfOk, refl, if◌then◌else◌, ◌==◌, String}
+use Rattle.std.proofs.Common.{ap, sym, subst, ◌∙◌, take, get_or, ◌+◌, ◌<◌}
 use Rattle.std.specs.Option.{option_map, option_to_list}
 use Rattle.std.specs.List.{cons_option, list_all}
 use Rattle.std.proofs.lemmas.List.Folds.{list_all_at, list_all-map}
@@ -8,10 +8,10 @@ use Rattle.hph_ast.specs.declared.program.FileTree.{FileTree}
 use Rattle.hph_ast.specs.RefusedStatements.{first_found, top_level, tree_construct}
 use Rattle.std.specs.String.{string_bytes}
 use Rattle.std.specs.Borrow.{Bor}
-use Rattle.std.specs.Str.{IsUtf8, IsValidUpTo}
+use Rattle.std.specs.Str.{IsValidUpTo}
 use Rattle.std.specs.Str.Lossy.{utf8_valid_len}
 use Rattle.std.specs.declared.alloc.Global.{Global}
-use Rattle.std.proofs.lemmas.List.{append-nil, append_assoc, map-append, take_more}
+use Rattle.std.proofs.lemmas.List.{map-append, take_more}
 use Rattle.std.proofs.lemmas.List.Elements.{filter_map-append}
 use Rattle.hph_ast.specs.declared.token.At.{At}
 use Rattle.hph_ast.specs.declared.operator.Binary.{Binary}

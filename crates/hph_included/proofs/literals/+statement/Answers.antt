@@ -1,7 +1,7 @@
 -- Statements without includes, three parts in turn, and one item more.
 use Rattle.std.specs.Prelude.{[], flat_map}
 use Rattle.std.specs.Option.{option_map_or}
-use Rattle.std.proofs.Common.{arith, ap, sym, ◌≡◌, ◌∙◌, ◌++◌}
+use Rattle.std.proofs.Common.{arith, ap, sym, ◌∙◌, ◌++◌}
 use Rattle.hph_program.specs.Sources.{includes_in}
 use Rattle.hph_included.specs.Literals.{in_branch, in_case, shapes}
 use Rattle.hph_included.proofs.Includes.{ends, nothing_more, one_more, three_in_turn, case_body, branch_body, in-If}
