@@ -1,0 +1,2 @@
+mod Includes
+mod Naming
