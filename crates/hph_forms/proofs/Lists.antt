@@ -53,7 +53,7 @@ told_made P Q (Ends stop st) go p t = tt
 told_made P Q (More st) go p t = tt
 
 -- as many are got as are evaluated
-each_long : {A : Type 0} (ms : List (Means A)) (n : ℕ) (st : State) → Told (λ (xs : List A). length xs ≡ length ms) (each ms n st)
+pub each_long : {A : Type 0} (ms : List (Means A)) (n : ℕ) (st : State) → Told (λ (xs : List A). length xs ≡ length ms) (each ms n st)
 each_long [] n st = refl
 each_long {A = A} (m ∷ ms) n st = told_on (λ (xs : List A). length xs ≡ suc (length ms)) (m n st) (λ a. bind (each ms) (λ rest. give (a ∷ rest))) (λ a n1 st1.
     told_made (λ (xs : List A). length xs ≡ length ms) (λ (xs : List A). length xs ≡ suc (length ms)) (each ms n1 st1) (λ rest. a ∷ rest) (λ xs e. ap suc e) (each_long ms n1 st1))
@@ -64,23 +64,31 @@ knows m u Goal P b n c (Gets a n' st) t f = (f.0, (f.1, t), f.2)
 knows m u Goal P b n c (Ends stop st) t f = f
 knows m u Goal P b n c (More st) t f = f
 
-module _ (s : Setup) (depth : ℕ) (Where : Situation → Type 0) {A B : Type 0} (item : A → Item) (leaves : B → List Word) (gives : B → List Item) where
-  -- a list above what lies there, and what goes on from it
-  pub then_each : (below : List Item) (a b : ℕ) (ca cb : List Instr) (ms : List (Means A)) (f : List A → Means B) → Each s depth Where item a ca ms →
-      ((xs : List A) → length xs ≡ length ms → Runs s depth Where [] (stacked item xs ++ below) leaves gives b cb (f xs)) →
-      Runs s depth Where [] below leaves gives (a + b) (ca ++ cb) (bind (each ms) f)
-  then_each below a b ca cb ms f p q = record { by = λ n le st k c w r.
+module _ (s : Setup) (depth : ℕ) (Where : Situation → Type 0) {A B : Type 0} (leaves : B → List Word) (gives : B → List Item) where
+  -- items above what lies there, and what goes on from them with what is known of them
+  pub then_known : (items : A → List Item) (P : A → Type 0) (below : List Item) (a b : ℕ) (ca cb : List Instr) (m : Means A) (f : A → Means B) →
+      ((n : ℕ) (st : State) → Told P (m n st)) → Runs s depth Where [] [] no_words items a ca m →
+      ((v : A) → P v → Runs s depth Where [] (items v ++ below) leaves gives b cb (f v)) →
+      Runs s depth Where [] below leaves gives (a + b) (ca ++ cb) (bind m f)
+  then_known items P below a b ca cb m f told p q = record { by = λ n le st k c w r.
       after_bind s.m s.u
-          (λ xs st c. Stands s (before cb (above [] below k)) [] [] (stacked item xs ++ (below ++ k.stack)) st c × (length xs ≡ length ms))
-          (λ b st c. Stands s k [] (leaves b) (gives b ++ k.stack) st c) a b n c (each ms n st) f
-      (knows s.m s.u (λ xs st c. Stands s (before cb (above [] below k)) [] [] (stacked item xs ++ (below ++ k.stack)) st c) (λ (xs : List A). length xs ≡ length ms) a n c
-          (each ms n st) (each_long ms n st)
+          (λ v st c. Stands s (before cb (above [] below k)) [] [] (items v ++ (below ++ k.stack)) st c × P v)
+          (λ b st c. Stands s k [] (leaves b) (gives b ++ k.stack) st c) a b n c (m n st) f
+      (knows s.m s.u (λ v st c. Stands s (before cb (above [] below k)) [] [] (items v ++ (below ++ k.stack)) st c) P a n c (m n st) (told n st)
           (p.by n le st (before cb (above [] below k)) c w (record { places = r.places; scratch = r.scratch; fits = r.fits;
             is = r.is ∙ ap (λ code. Running code k.values (setting s k r.scratch r.places (below ++ k.stack) st)) (append_assoc ca cb k.rest) })))
-      (λ xs n1 st1 c1 less g. (q xs g.1).by n1 (omega (arith, less, le)) st1 k c1 w (record {
+      (λ v n1 st1 c1 less g. (q v g.1).by n1 (omega (arith, less, le)) st1 k c1 w (record {
         places = g.0.places; scratch = g.0.scratch; fits = g.0.fits;
-        is = g.0.is ∙ ap (λ stack. Running (cb ++ k.rest) k.values (setting s k g.0.scratch g.0.places stack st1)) (sym (append_assoc (stacked item xs) below k.stack));
+        is = g.0.is ∙ ap (λ stack. Running (cb ++ k.rest) k.values (setting s k g.0.scratch g.0.places stack st1)) (sym (append_assoc (items v) below k.stack));
       })) }
+
+module _ (s : Setup) (depth : ℕ) (Where : Situation → Type 0) {A B : Type 0} (leaves : B → List Word) (gives : B → List Item) where
+  -- a list above what lies there
+  pub then_each : (item : A → Item) (below : List Item) (a b : ℕ) (ca cb : List Instr) (ms : List (Means A)) (f : List A → Means B) → Each s depth Where item a ca ms →
+      ((xs : List A) → length xs ≡ length ms → Runs s depth Where [] (stacked item xs ++ below) leaves gives b cb (f xs)) →
+      Runs s depth Where [] below leaves gives (a + b) (ca ++ cb) (bind (each ms) f)
+  then_each item below a b ca cb ms f p q =
+      then_known s depth Where leaves gives (stacked item) (λ xs. length xs ≡ length ms) below a b ca cb (each ms) f (each_long ms) p q
 
 -- ---- what goes through each of a list
 

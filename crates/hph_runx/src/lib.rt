@@ -1,0 +1,2 @@
+//! The code of expressions does what they mean.
+#![tactic(auto)]
