@@ -1,3 +1,4 @@
 pub mod Puts
 pub mod Entering
 pub mod Closing
+pub mod Elements

@@ -1,6 +1,6 @@
 //! Arrays that are open at a place.
 ghost use Rattle.std.specs.Prelude.{◌≡◌, Some, IfOk};
-ghost use Rattle.hph_array.specs.Array.{get, set, array_map};
+ghost use Rattle.hph_array.specs.Array.{IsArray, get, set, array_map};
 ghost use Rattle.hph_php.specs.Paths as php;
 ghost use Rattle.hph_php.specs.Paths.{by_key, at_end};
 ghost use Rattle.hph_php.specs.Values.{Value as PhpValue};
@@ -38,7 +38,7 @@ fn array_of_value(alloc: Global, value: &Value) -> Result<OrdMap<Value>, Stop>
 }
 
 /// The same of what a place has, a new one where it is unset. An array that nothing else shares isn't copied.
-fn array_for_write(alloc: Global, place: Option<Value>) -> Result<OrdMap<Value>, Stop>
+pub(crate) fn array_for_write(alloc: Global, place: Option<Value>) -> Result<OrdMap<Value>, Stop>
     ensures { TellsBy (array_map value_of) result (php.array_for_write (place_of place)) }
 {
     match place {
@@ -51,11 +51,14 @@ fn array_for_write(alloc: Global, place: Option<Value>) -> Result<OrdMap<Value>,
 }
 
 /// An array that is open at a key, and the value that was there.
-fn open_at(map: OrdMap<Value>, key: Key) -> (Level, Option<Value>)
+pub(crate) fn open_at(map: OrdMap<Value>, key: Key) -> (Level, Option<Value>)
     ensures fills { (value : PhpValue) → array_with (array_map value_of result.0.map) result.0.key value ≡ set (array_map value_of map) key value }
+    ensures taken { result.1 ≡ get map key }
     ensures inner { place_of result.1 ≡ get (array_map value_of map) key }
+    ensures array { IsArray map }
 {
     let mut map = map;
+    let _pairs = map.len();
     let inner = map.take(&key, Value::Null);
     (
         Level {

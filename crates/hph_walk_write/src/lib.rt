@@ -7,5 +7,7 @@
 
 mod level;
 mod opening;
+mod unsetting;
 
 pub use opening::{Opened, open, write};
+pub use unsetting::unset;

@@ -42,7 +42,7 @@ pub fn open(
 }
 
 /// Puts a level last.
-fn push_level(levels: &mut Vec<Level>, level: Level) -> Result<(), AllocError>
+pub(crate) fn push_level(levels: &mut Vec<Level>, level: Level) -> Result<(), AllocError>
     ensures { OnOk result (levels.new.items ≡ levels.old.items ++ level ∷ []) }
 {
     match levels.push(level) {
@@ -52,6 +52,13 @@ fn push_level(levels: &mut Vec<Level>, level: Level) -> Result<(), AllocError>
 }
 
 impl Opened {
+    /// The arrays of these levels, the outermost first.
+    pub(crate) fn of(levels: Vec<Level>) -> Opened
+        ensures { result.levels.items ≡ levels.items }
+    {
+        Opened { levels }
+    }
+
     /// Puts a value in and closes the arrays over it.
     pub fn close(self, alloc: Global, value: Value) -> Result<Value, AllocError>
         ensures { IfOk result (λ whole. value_of whole ≡ closed self.levels.items (value_of value)) }
