@@ -21,21 +21,29 @@ module _ (s : Setup) (depth : ℕ) (Where : Situation → Type 0) {A : Type 0} (
   Each b code ms = Runs s depth Where [] [] no_words (stacked item) b code (each ms)
 
   pub each_none : Each 0 [] []
-  each_none = record { by = λ n le st k c w r.
-      got s.m s.u (λ xs st c. Stands s k [] [] (stacked item xs ++ k.stack) st c) 0 0 n c c [] st (omega arith) refl r }
+  each_none = record {
+    by = λ n le st k c w r.
+        got s.m s.u (λ xs st c. Stands s k [] [] (stacked item xs ++ k.stack) st c) 0 0 n c c [] st (omega arith) refl r;
+  }
 
   pub each_more : (a b : ℕ) (ca cb : List Instr) (m : Means A) (ms : List (Means A)) →
       Runs s depth Where [] [] no_words (λ a. item a ∷ []) a ca m → Each b cb ms → Each (a + b) (ca ++ cb) (m ∷ ms)
-  each_more a b ca cb m ms p q = record { by = λ n le st k c w r.
-      after_bind s.m s.u (λ a st c. Stands s (before cb k) [] [] (item a ∷ k.stack) st c)
-          (λ xs st c. Stands s k [] [] (stacked item xs ++ k.stack) st c) a b n c (m n st) (λ a. bind (each ms) (λ rest. give (a ∷ rest)))
-      (p.by n le st (before cb k) c w (first_part s depth Where k ca cb [] k.stack st c r))
-      (λ v n1 st1 c1 less g.
-          mapped s.m s.u (λ xs st c. Stands s (above [] (item v ∷ []) k) [] [] (stacked item xs ++ (item v ∷ k.stack)) st c)
-              (λ xs st c. Stands s k [] [] (stacked item xs ++ k.stack) st c) b n1 c1 (each ms n1 st1) (λ rest. v ∷ rest)
-          (q.by n1 (omega (arith, less, le)) st1 (above [] (item v ∷ []) k) c1 w (record { places = g.places; scratch = g.scratch; fits = g.fits; is = g.is }))
-          (λ rest st2 c2 h. record { places = h.places; scratch = h.scratch; fits = h.fits;
-              is = h.is ∙ ap (λ stack. Running k.rest k.values (setting s k h.scratch h.places stack st2)) (sym (append_assoc (stacked item rest) (item v ∷ []) k.stack)) })) }
+  each_more a b ca cb m ms p q = record {
+    by = λ n le st k c w r.
+        after_bind s.m s.u (λ a st c. Stands s (before cb k) [] [] (item a ∷ k.stack) st c)
+        (λ xs st c. Stands s k [] [] (stacked item xs ++ k.stack) st c) a b n c (m n st) (λ a. bind (each ms) (λ rest. give (a ∷ rest)))
+        (p.by n le st (before cb k) c w (first_part s depth Where k ca cb [] k.stack st c r))
+        (λ v n1 st1 c1 less g.
+        mapped s.m s.u (λ xs st c. Stands s (above [] (item v ∷ []) k) [] [] (stacked item xs ++ (item v ∷ k.stack)) st c)
+        (λ xs st c. Stands s k [] [] (stacked item xs ++ k.stack) st c) b n1 c1 (each ms n1 st1) (λ rest. v ∷ rest)
+        (q.by n1 (omega (arith, less, le)) st1 (above [] (item v ∷ []) k) c1 w (record { places = g.places; scratch = g.scratch; fits = g.fits; is = g.is }))
+        (λ rest st2 c2 h. record {
+          places = h.places;
+          scratch = h.scratch;
+          fits = h.fits;
+          is = h.is ∙ ap (λ stack. Running k.rest k.values (setting s k h.scratch h.places stack st2)) (sym (append_assoc (stacked item rest) (item v ∷ []) k.stack));
+        }));
+  }
 
 -- what is known of what is got
 abbrev pub Told : {A : Type 0} → (A → Type 0) → Answer A → Type 0
@@ -70,17 +78,25 @@ module _ (s : Setup) (depth : ℕ) (Where : Situation → Type 0) {A B : Type 0}
       ((n : ℕ) (st : State) → Told P (m n st)) → Runs s depth Where [] [] no_words items a ca m →
       ((v : A) → P v → Runs s depth Where [] (items v ++ below) leaves gives b cb (f v)) →
       Runs s depth Where [] below leaves gives (a + b) (ca ++ cb) (bind m f)
-  then_known items P below a b ca cb m f told p q = record { by = λ n le st k c w r.
-      after_bind s.m s.u
-          (λ v st c. Stands s (before cb (above [] below k)) [] [] (items v ++ (below ++ k.stack)) st c × P v)
-          (λ b st c. Stands s k [] (leaves b) (gives b ++ k.stack) st c) a b n c (m n st) f
-      (knows s.m s.u (λ v st c. Stands s (before cb (above [] below k)) [] [] (items v ++ (below ++ k.stack)) st c) P a n c (m n st) (told n st)
-          (p.by n le st (before cb (above [] below k)) c w (record { places = r.places; scratch = r.scratch; fits = r.fits;
-            is = r.is ∙ ap (λ code. Running code k.values (setting s k r.scratch r.places (below ++ k.stack) st)) (append_assoc ca cb k.rest) })))
-      (λ v n1 st1 c1 less g. (q v g.1).by n1 (omega (arith, less, le)) st1 k c1 w (record {
-        places = g.0.places; scratch = g.0.scratch; fits = g.0.fits;
-        is = g.0.is ∙ ap (λ stack. Running (cb ++ k.rest) k.values (setting s k g.0.scratch g.0.places stack st1)) (sym (append_assoc (items v) below k.stack));
-      })) }
+  then_known items P below a b ca cb m f told p q = record {
+    by = λ n le st k c w r.
+        after_bind s.m s.u
+        (λ v st c. Stands s (before cb (above [] below k)) [] [] (items v ++ (below ++ k.stack)) st c × P v)
+        (λ b st c. Stands s k [] (leaves b) (gives b ++ k.stack) st c) a b n c (m n st) f
+        (knows s.m s.u (λ v st c. Stands s (before cb (above [] below k)) [] [] (items v ++ (below ++ k.stack)) st c) P a n c (m n st) (told n st)
+        (p.by n le st (before cb (above [] below k)) c w (record {
+          places = r.places;
+          scratch = r.scratch;
+          fits = r.fits;
+          is = r.is ∙ ap (λ code. Running code k.values (setting s k r.scratch r.places (below ++ k.stack) st)) (append_assoc ca cb k.rest);
+        })))
+        (λ v n1 st1 c1 less g. (q v g.1).by n1 (omega (arith, less, le)) st1 k c1 w (record {
+          places = g.0.places;
+          scratch = g.0.scratch;
+          fits = g.0.fits;
+          is = g.0.is ∙ ap (λ stack. Running (cb ++ k.rest) k.values (setting s k g.0.scratch g.0.places stack st1)) (sym (append_assoc (items v) below k.stack));
+        }));
+  }
 
 module _ (s : Setup) (depth : ℕ) (Where : Situation → Type 0) {A B : Type 0} (leaves : B → List Word) (gives : B → List Item) where
   -- a list above what lies there
@@ -139,5 +155,5 @@ pub values_popped : (vs : List Value) (h : HostState) (below : List Item) (go : 
 values_popped vs h below go =
     let e : length vs ≡ length vs + 0 = omega arith in
     let taken : items_onto [] (length vs) (stacked a_value vs ++ below) ≡ Some (map a_value vs, below)
-        = ap (λ n. items_onto [] n (stacked a_value vs ++ below)) e ∙ values_taken vs 0 [] below ∙ ap (λ items. Some (items, below)) (append-nil (map a_value vs)) in
+    = ap (λ n. items_onto [] n (stacked a_value vs ++ below)) e ∙ values_taken vs 0 [] below ∙ ap (λ items. Some (items, below)) (append-nil (map a_value vs)) in
     rw (taken, all_values vs) refl

@@ -132,6 +132,7 @@ all_same P xs ys e all = from ys (subst (AllByRecursion P) (sym e) (to xs all))
     to : (xs : List Object) → AllByRecursion (λ (o : Object). P o.class) xs → AllByRecursion P (classes_of xs)
     to [] h = tt
     to (x ∷ xs) h = (h.0, to xs h.1)
+
     from : (ys : List Object) → AllByRecursion P (classes_of ys) → AllByRecursion (λ (o : Object). P o.class) ys
     from [] h = tt
     from (y ∷ ys) h = (h.0, from ys h.1)

@@ -70,12 +70,12 @@ module _ (s : Setup) (depth : ℕ) (item : Item) (base : Base) (steps : List Pat
   pub reads : Runs s depth Here [] path_items no_words one_value 3 (steps_number ∷ call r.PathGet ∷ []) (read_from s.class base steps)
   reads = by_row s depth Here r.PathGet (steps_number ∷ []) 1 [] (word.I32 (length steps) ∷ []) path_items no_words one_value (read_from s.class base steps)
       (λ rest below at. (word.I32 (length steps) ∷ below, refl, refl)) (λ n st k p here fits.
-          let h : HostState = host_of k p k.stack st in
-          let e : paths.path_get (length steps) (host_of k p (path_items ++ k.stack) st) ≡ settled (read_path st.core.heap s.class (old_value (at_base base st)) steps) h
-              = ap (λ stack. walked (length steps) (host_of k p stack st) got) (regrouped k) ∙ walked_is s k p st fits item base steps here got
-              ∙ ap (λ class. settled (read_path st.core.heap class (old_value (at_base base st)) steps) h) (class_is s k p st fits) in
-          subst (λ reply. Replies s k [] no_words one_value n reply (read_from s.class base steps n st)) (sym e)
-          (settles s k p n st (read_path st.core.heap s.class (old_value (at_base base st)) steps) fits))
+      let h : HostState = host_of k p k.stack st in
+      let e : paths.path_get (length steps) (host_of k p (path_items ++ k.stack) st) ≡ settled (read_path st.core.heap s.class (old_value (at_base base st)) steps) h
+      = ap (λ stack. walked (length steps) (host_of k p stack st) got) (regrouped k) ∙ walked_is s k p st fits item base steps here got
+      ∙ ap (λ class. settled (read_path st.core.heap class (old_value (at_base base st)) steps) h) (class_is s k p st fits) in
+      subst (λ reply. Replies s k [] no_words one_value n reply (read_from s.class base steps n st)) (sym e)
+      (settles s k p n st (read_path st.core.heap s.class (old_value (at_base base st)) steps) fits))
 
   -- what is found where it is asked for, beside what lies there if nothing is
   found_or : (k : Around) (p : Places) (n : ℕ) (st : State) (left : List Item) (o : Option Value) → Fits s k.situation p st.frames st.globals st.core.heap →
@@ -90,13 +90,13 @@ module _ (s : Setup) (depth : ℕ) (item : Item) (base : Base) (steps : List Pat
   tries = by_row s depth Here r.PathTry (steps_number ∷ []) 1 [] (word.I32 (length steps) ∷ []) path_items is_there if_there
       (try_from s.class base steps)
       (λ rest below at. (word.I32 (length steps) ∷ below, refl, refl)) (λ n st k p here fits.
-          let h : HostState = host_of k p k.stack st in
-          let e : paths.path_try (length steps) (host_of k p (path_items ++ k.stack) st) ≡ if_set (tries_at st) h h
-              = ap (λ stack. paths.path_try (length steps) (host_of k p stack st)) (regrouped k)
-              ∙ walked_is s k p st fits item base steps here (λ base steps place h. tested h base steps place h)
-              ∙ ap (λ class. if_set (tried steps (at_base base st) h class) h h) (class_is s k p st fits) in
-          subst (λ reply. Replies s k (I32 ∷ []) is_there if_there n reply (try_from s.class base steps n st)) (sym e)
-          (found_or k p n st [] (tries_at st) fits))
+      let h : HostState = host_of k p k.stack st in
+      let e : paths.path_try (length steps) (host_of k p (path_items ++ k.stack) st) ≡ if_set (tries_at st) h h
+      = ap (λ stack. paths.path_try (length steps) (host_of k p stack st)) (regrouped k)
+      ∙ walked_is s k p st fits item base steps here (λ base steps place h. tested h base steps place h)
+      ∙ ap (λ class. if_set (tried steps (at_base base st) h class) h h) (class_is s k p st fits) in
+      subst (λ reply. Replies s k (I32 ∷ []) is_there if_there n reply (try_from s.class base steps n st)) (sym e)
+      (found_or k p n st [] (tries_at st) fits))
 
   -- the path stays where nothing is set
   pub keeps : Runs s depth Here [] path_items is_there (there_or path_items) 3 (steps_number ∷ call r.PathKeep ∷ [])
@@ -104,14 +104,14 @@ module _ (s : Setup) (depth : ℕ) (item : Item) (base : Base) (steps : List Pat
   keeps = by_row s depth Here r.PathKeep (steps_number ∷ []) 1 [] (word.I32 (length steps) ∷ []) path_items is_there (there_or path_items)
       (try_from s.class base steps)
       (λ rest below at. (word.I32 (length steps) ∷ below, refl, refl)) (λ n st k p here fits.
-          let h : HostState = host_of k p k.stack st in
-          let whole : HostState = host_of k p (path_items ++ k.stack) st in
-          let e : paths.path_keep (length steps) whole ≡ if_set (tries_at st) whole h
-              = ap (λ stack. walked (length steps) (host_of k p stack st) (tested whole)) (regrouped k)
-              ∙ walked_is s k p st fits item base steps here (tested whole)
-              ∙ ap (λ class. if_set (tried steps (at_base base st) h class) whole h) (class_is s k p st fits) in
-          subst (λ reply. Replies s k (I32 ∷ []) is_there (there_or path_items) n reply (try_from s.class base steps n st)) (sym e)
-          (found_or k p n st path_items (tries_at st) fits))
+      let h : HostState = host_of k p k.stack st in
+      let whole : HostState = host_of k p (path_items ++ k.stack) st in
+      let e : paths.path_keep (length steps) whole ≡ if_set (tries_at st) whole h
+      = ap (λ stack. walked (length steps) (host_of k p stack st) (tested whole)) (regrouped k)
+      ∙ walked_is s k p st fits item base steps here (tested whole)
+      ∙ ap (λ class. if_set (tried steps (at_base base st) h class) whole h) (class_is s k p st fits) in
+      subst (λ reply. Replies s k (I32 ∷ []) is_there (there_or path_items) n reply (try_from s.class base steps n st)) (sym e)
+      (found_or k p n st path_items (tries_at st) fits))
 
   -- ---- writing
 
@@ -119,22 +119,22 @@ module _ (s : Setup) (depth : ℕ) (item : Item) (base : Base) (steps : List Pat
     pub writes : (v : Value) → Runs s depth Here [] (a_value v ∷ path_items) no_words one_value 3 (steps_number ∷ call r.PathSet ∷ []) (write_to s.class base steps v)
     writes v = by_row s depth Here r.PathSet (steps_number ∷ []) 1 [] (word.I32 (length steps) ∷ []) (a_value v ∷ path_items) no_words one_value (write_to s.class base steps v)
         (λ rest below at. (word.I32 (length steps) ∷ below, refl, refl)) (λ n st k p here fits.
-            subst (λ stack. Replies s k [] no_words one_value n (walked_for is_writable (length steps) (host_of k p stack st) (paths.assigned v)) (write_to s.class base steps v n st))
-            (sym (regrouped k)) (stores s k p st fits n item base steps is_writable (paths.assigned v) (λ class. assign_at class steps v) here writable (λ place h. refl)
-            (λ place. assign_keeps st.core.heap s.class steps v place)))
+        subst (λ stack. Replies s k [] no_words one_value n (walked_for is_writable (length steps) (host_of k p stack st) (paths.assigned v)) (write_to s.class base steps v n st))
+        (sym (regrouped k)) (stores s k p st fits n item base steps is_writable (paths.assigned v) (λ class. assign_at class steps v) here writable (λ place h. refl)
+        (λ place. assign_keeps st.core.heap s.class steps v place)))
 
     pub operates_there : (op : BinOp) (v : Value) → Runs s depth Here [] (a_value v ∷ path_items) no_words one_value 4
         (steps_number ∷ number (binary_code op) ∷ call r.PathOp ∷ []) (store base (operate_at s.class (binary_of op) steps v))
     operates_there op v = by_row s depth Here r.PathOp (steps_number ∷ number (binary_code op) ∷ []) 2 [] (word.I32 (length steps) ∷ word.I32 (binary_code op) ∷ [])
         (a_value v ∷ path_items) no_words one_value (store base (operate_at s.class (binary_of op) steps v))
         (λ rest below at. (word.I32 (binary_code op) ∷ word.I32 (length steps) ∷ below, refl, refl)) (λ n st k p here fits.
-            let h : HostState = host_of k p (a_value v ∷ path_items ++ k.stack) st in
-            subst (λ o. Replies s k [] no_words one_value n (found o h (λ op. popped h (λ v h. walked_for is_writable (length steps) h (paths.operated op v))))
-                (store base (operate_at s.class (binary_of op) steps v) n st)) (sym (binary_inverse op))
-            (subst (λ stack. Replies s k [] no_words one_value n (walked_for is_writable (length steps) (host_of k p stack st) (paths.operated op v))
-                (store base (operate_at s.class (binary_of op) steps v) n st)) (sym (regrouped k))
-            (stores s k p st fits n item base steps is_writable (paths.operated op v) (λ class. operate_at class (binary_of op) steps v) here writable (λ place h. refl)
-            (λ place. operate_keeps st.core.heap s.class (binary_of op) steps v place))))
+        let h : HostState = host_of k p (a_value v ∷ path_items ++ k.stack) st in
+        subst (λ o. Replies s k [] no_words one_value n (found o h (λ op. popped h (λ v h. walked_for is_writable (length steps) h (paths.operated op v))))
+        (store base (operate_at s.class (binary_of op) steps v) n st)) (sym (binary_inverse op))
+        (subst (λ stack. Replies s k [] no_words one_value n (walked_for is_writable (length steps) (host_of k p stack st) (paths.operated op v))
+        (store base (operate_at s.class (binary_of op) steps v) n st)) (sym (regrouped k))
+        (stores s k p st fits n item base steps is_writable (paths.operated op v) (λ class. operate_at class (binary_of op) steps v) here writable (λ place h. refl)
+        (λ place. operate_keeps st.core.heap s.class (binary_of op) steps v place))))
 
     -- `++` and `--` by their number
     moves_by : (mode : ℕ) (m : paths.Move) → slice_get moves mode ≡ Some m → Runs s depth Here [] path_items no_words one_value 4
@@ -142,13 +142,13 @@ module _ (s : Setup) (depth : ℕ) (item : Item) (base : Base) (steps : List Pat
     moves_by mode m at = by_row s depth Here r.PathInc (steps_number ∷ number mode ∷ []) 2 [] (word.I32 (length steps) ∷ word.I32 mode ∷ [])
         path_items no_words one_value (store base (update_at s.class m.move m.which steps))
         (λ rest below w. (word.I32 mode ∷ word.I32 (length steps) ∷ below, refl, refl)) (λ n st k p here fits.
-            let h : HostState = host_of k p (path_items ++ k.stack) st in
-            subst (λ o. Replies s k [] no_words one_value n (found o h (λ m. walked_for is_writable (length steps) h (paths.updated m)))
-                (store base (update_at s.class m.move m.which steps) n st)) (sym at)
-            (subst (λ stack. Replies s k [] no_words one_value n (walked_for is_writable (length steps) (host_of k p stack st) (paths.updated m))
-                (store base (update_at s.class m.move m.which steps) n st)) (sym (regrouped k))
-            (stores s k p st fits n item base steps is_writable (paths.updated m) (λ class. update_at class m.move m.which steps) here writable (λ place h. refl)
-            (λ place. update_keeps st.core.heap s.class m.move m.which steps place))))
+        let h : HostState = host_of k p (path_items ++ k.stack) st in
+        subst (λ o. Replies s k [] no_words one_value n (found o h (λ m. walked_for is_writable (length steps) h (paths.updated m)))
+        (store base (update_at s.class m.move m.which steps) n st)) (sym at)
+        (subst (λ stack. Replies s k [] no_words one_value n (walked_for is_writable (length steps) (host_of k p stack st) (paths.updated m))
+        (store base (update_at s.class m.move m.which steps) n st)) (sym (regrouped k))
+        (stores s k p st fits n item base steps is_writable (paths.updated m) (λ class. update_at class m.move m.which steps) here writable (λ place h. refl)
+        (λ place. update_keeps st.core.heap s.class m.move m.which steps place))))
 
     pub increments : Runs s depth Here [] path_items no_words one_value 4 (steps_number ∷ number 0 ∷ call r.PathInc ∷ [])
         (store base (update_at s.class incremented (λ old new. new) steps))
@@ -188,12 +188,12 @@ module _ (s : Setup) (depth : ℕ) (item : Item) (base : Base) (steps : List Pat
       pushes vs = by_row s depth Here r.PathPush (steps_number ∷ number (length vs) ∷ []) 2 [] (word.I32 (length steps) ∷ word.I32 (length vs) ∷ [])
           (stacked a_value vs ++ path_items) no_words one_value (change_array s.class (pushed vs) base steps)
           (λ rest below at. (word.I32 (length vs) ∷ word.I32 (length steps) ∷ below, refl, refl)) (λ n st k p here fits.
-              let e : paths.path_push (length steps) (length vs) (host_of k p ((stacked a_value vs ++ path_items) ++ k.stack) st)
-                      ≡ paths.change_array (length steps) (pushed vs) (host_of k p (path_items ++ k.stack) st)
-                  = ap (λ stack. paths.path_push (length steps) (length vs) (host_of k p stack st)) (append_assoc (stacked a_value vs) path_items k.stack)
-                  ∙ values_popped vs (host_of k p k.stack st) (path_items ++ k.stack) (λ vs h. paths.change_array (length steps) (pushed vs) h) in
-              subst (λ reply. Replies s k [] no_words one_value n reply (change_array s.class (pushed vs) base steps n st)) (sym e)
-              (changes k p n st (pushed vs) fits here))
+          let e : paths.path_push (length steps) (length vs) (host_of k p ((stacked a_value vs ++ path_items) ++ k.stack) st)
+          ≡ paths.change_array (length steps) (pushed vs) (host_of k p (path_items ++ k.stack) st)
+          = ap (λ stack. paths.path_push (length steps) (length vs) (host_of k p stack st)) (append_assoc (stacked a_value vs) path_items k.stack)
+          ∙ values_popped vs (host_of k p k.stack st) (path_items ++ k.stack) (λ vs h. paths.change_array (length steps) (pushed vs) h) in
+          subst (λ reply. Replies s k [] no_words one_value n reply (change_array s.class (pushed vs) base steps n st)) (sym e)
+          (changes k p n st (pushed vs) fits here))
 
 -- ---- functions that are built in
 
@@ -203,11 +203,11 @@ module _ (s : Setup) (depth : ℕ) (Where : Situation → Type 0) (function : Bu
   calls_builtin = by_row s depth Where r.Builtin (number (builtin_code function) ∷ number (length vs) ∷ []) 2 []
       (word.I32 (builtin_code function) ∷ word.I32 (length vs) ∷ []) (stacked a_value vs) no_words one_value (reply (builtin_of function vs))
       (λ rest below at. (word.I32 (length vs) ∷ word.I32 (builtin_code function) ∷ below, refl, refl)) (λ n st k p here fits.
-          let h : HostState = host_of k p (stacked a_value vs ++ k.stack) st in
-          let e : calls.builtin (builtin_code function) (length vs) h ≡ calls.replied (builtin_of function vs) (host_of k p k.stack st)
-              = ap (λ o. found o h (λ f. hosts.popped_all hosts.the_value (length vs) h (λ vs h. calls.replied (builtin_of f vs) h))) (builtin_inverse function)
-              ∙ values_popped vs (host_of k p k.stack st) k.stack (λ vs h. calls.replied (builtin_of function vs) h) in
-          subst (λ x. Replies s k [] no_words one_value n x (reply (builtin_of function vs) n st)) (sym e) (by k p n st (builtin_of function vs) fits))
+      let h : HostState = host_of k p (stacked a_value vs ++ k.stack) st in
+      let e : calls.builtin (builtin_code function) (length vs) h ≡ calls.replied (builtin_of function vs) (host_of k p k.stack st)
+      = ap (λ o. found o h (λ f. hosts.popped_all hosts.the_value (length vs) h (λ vs h. calls.replied (builtin_of f vs) h))) (builtin_inverse function)
+      ∙ values_popped vs (host_of k p k.stack st) k.stack (λ vs h. calls.replied (builtin_of function vs) h) in
+      subst (λ x. Replies s k [] no_words one_value n x (reply (builtin_of function vs) n st)) (sym e) (by k p n st (builtin_of function vs) fits))
     where
       by : (k : Around) (p : Places) (n : ℕ) (st : State) (r : Reply) → Fits s k.situation p st.frames st.globals st.core.heap →
           Replies s k [] no_words one_value n (calls.replied r (host_of k p k.stack st)) (reply r n st)

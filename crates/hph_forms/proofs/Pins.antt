@@ -76,37 +76,45 @@ module _ (s : Setup) (depth : ℕ) {A : Type 0} (leaves : A → List Word) (give
 
   pub from_variable : (name : Name) (i : ℕ) → s.slot name ≡ Some i → ((l : ℕ) → GoesOn (a_place l) (a_variable name)) →
       Runs s depth Everywhere [] [] leaves gives (3 + b) (number i ∷ call row.Ref ∷ code) (bind (variable_base name) go)
-  from_variable name i at runs = record { by = λ n le st k c w r.
-      let ch = changed s k r.places k.stack st r.fits (state.place by_slot i) (state.place by_name name)
-          (place_alike s.slot s.one_slot (current k.situation.hosts r.places) (state.variables st) st.core.places r.fits.own name i at) in
-      let after : Slots = (state.place by_slot i (record { variables = current k.situation.hosts r.places; places = st.core.places })).variables in
-      let l : ℕ = state.location_in by_slot i after in
-      let st1 : State = place_variable name st in
-      let h1 : HostState = host_of k ch.places k.stack st1 in
-      let there : located (current k.situation.hosts ch.places) i ≡ Some l
-          = ap (λ slots. located slots i) ch.own ∙ is_placed s.slot s.one_slot (current k.situation.hosts r.places) (state.variables st) st.core.places r.fits.own name i at in
-      let replied : only_if (slots.has_slot i (slots.frames_with r.places.own k.situation.hosts)) (host_of k r.places k.stack st)
-              (done (push_slot i (slots.on_located (state.place by_slot i) (host_of k r.places k.stack st)))) ≡ done (push_item (a_place l) h1)
-          = ap (λ t. only_if t (host_of k r.places k.stack st) (done (push_slot i (slots.on_located (state.place by_slot i) (host_of k r.places k.stack st)))))
-              (in_frame s k r.places k.stack st r.fits name i at)
-          ∙ ap (λ h. done (push_slot i h)) ch.is
-          ∙ ap (λ slots. done (push_item (a_place (state.location_in by_slot i slots)) h1)) (slots_are k.situation.hosts ch.places ∙ ch.own) in
-      let k1 : Around = record k { situation = pinned i l k.situation } in
-      let c1 : Conf = Running (code ++ k.rest) k.values (setting s k r.scratch ch.places (a_place l ∷ k.stack) st1) in
-      let ready : Setting HostStatus = setting s k r.scratch r.places k.stack st in
-      after_steps s.m s.u (λ a st c. Stands s k [] (leaves a) (gives a ++ k.stack) st c) 3 b n c c1 (go (a_variable name) n st1)
-      (ap (reduce php1 s.m 3) r.is
-      ∙ row_call s row.Ref (record { passed = word.I32 i ∷ []; below = k.values }) (code ++ k.rest) (word.I32 i ∷ k.values) k r.scratch r.places k.stack st refl
-      ∙ ap (λ reply. after_reply php1 s.m reply (type_of row.Ref) k.values (code ++ k.rest) ready (Stuck (call row.Ref ∷ (code ++ k.rest)) ready)) replied)
-      (said s.m s.u (λ a st c. Stands s k1 [] (leaves a) (gives a ++ k.stack) st c) (λ a st c. Stands s k [] (leaves a) (gives a ++ k.stack) st c) b n c1
-          (go (a_variable name) n st1)
-      ((runs l).by n le st1 k1 c1 (i, at, slot_with k.situation.since i l) (record {
-        places = ch.places; scratch = r.scratch; is = refl;
-        fits = pin s k.situation ch.places st1.frames st1.globals st1.core.heap i l there ch.fits;
-      }))
-      (λ a st2 c2 g. record { places = g.places; scratch = g.scratch; is = g.is;
-        fits = unpin s k.situation g.places st2.frames st2.globals st2.core.heap i l
-            (λ m e. some_same m l (sym (ch.fits.kept i m e) ∙ there)) g.fits; })) }
+  from_variable name i at runs = record {
+    by = λ n le st k c w r.
+        let ch = changed s k r.places k.stack st r.fits (state.place by_slot i) (state.place by_name name)
+        (place_alike s.slot s.one_slot (current k.situation.hosts r.places) (state.variables st) st.core.places r.fits.own name i at) in
+        let after : Slots = (state.place by_slot i (record { variables = current k.situation.hosts r.places; places = st.core.places })).variables in
+        let l : ℕ = state.location_in by_slot i after in
+        let st1 : State = place_variable name st in
+        let h1 : HostState = host_of k ch.places k.stack st1 in
+        let there : located (current k.situation.hosts ch.places) i ≡ Some l
+        = ap (λ slots. located slots i) ch.own ∙ is_placed s.slot s.one_slot (current k.situation.hosts r.places) (state.variables st) st.core.places r.fits.own name i at in
+        let replied : only_if (slots.has_slot i (slots.frames_with r.places.own k.situation.hosts)) (host_of k r.places k.stack st)
+        (done (push_slot i (slots.on_located (state.place by_slot i) (host_of k r.places k.stack st)))) ≡ done (push_item (a_place l) h1)
+        = ap (λ t. only_if t (host_of k r.places k.stack st) (done (push_slot i (slots.on_located (state.place by_slot i) (host_of k r.places k.stack st)))))
+        (in_frame s k r.places k.stack st r.fits name i at)
+        ∙ ap (λ h. done (push_slot i h)) ch.is
+        ∙ ap (λ slots. done (push_item (a_place (state.location_in by_slot i slots)) h1)) (slots_are k.situation.hosts ch.places ∙ ch.own) in
+        let k1 : Around = record k { situation = pinned i l k.situation } in
+        let c1 : Conf = Running (code ++ k.rest) k.values (setting s k r.scratch ch.places (a_place l ∷ k.stack) st1) in
+        let ready : Setting HostStatus = setting s k r.scratch r.places k.stack st in
+        after_steps s.m s.u (λ a st c. Stands s k [] (leaves a) (gives a ++ k.stack) st c) 3 b n c c1 (go (a_variable name) n st1)
+        (ap (reduce php1 s.m 3) r.is
+        ∙ row_call s row.Ref (record { passed = word.I32 i ∷ []; below = k.values }) (code ++ k.rest) (word.I32 i ∷ k.values) k r.scratch r.places k.stack st refl
+        ∙ ap (λ reply. after_reply php1 s.m reply (type_of row.Ref) k.values (code ++ k.rest) ready (Stuck (call row.Ref ∷ (code ++ k.rest)) ready)) replied)
+        (said s.m s.u (λ a st c. Stands s k1 [] (leaves a) (gives a ++ k.stack) st c) (λ a st c. Stands s k [] (leaves a) (gives a ++ k.stack) st c) b n c1
+        (go (a_variable name) n st1)
+        ((runs l).by n le st1 k1 c1 (i, at, slot_with k.situation.since i l) (record {
+          places = ch.places;
+          scratch = r.scratch;
+          is = refl;
+          fits = pin s k.situation ch.places st1.frames st1.globals st1.core.heap i l there ch.fits;
+        }))
+        (λ a st2 c2 g. record {
+          places = g.places;
+          scratch = g.scratch;
+          is = g.is;
+          fits = unpin s k.situation g.places st2.frames st2.globals st2.core.heap i l
+              (λ m e. some_same m l (sym (ch.fits.kept i m e) ∙ there)) g.fits;
+        }));
+  }
 
   -- the answers are the same
   on_value : {B : Type 0} (f : B → Base) (x : Answer B) → proceed x (λ v. go (f v)) ≡ proceed (proceed x (λ v. give (f v))) go

@@ -42,13 +42,15 @@ module _ (s : Setup) (depth : ℕ) (Where : Situation → Type 0) where
 
   pub sets_one : (a b : ℕ) (ct cr : List Instr) (t : Means (Option Value)) (m : Means Value) → Tries s depth Where a ct t → Sets b cr m →
       Sets (a + (b + 4)) (ct ++ (out_unless_set ++ cr)) (bind t (λ v. option_map_or (λ _. m) v (give (Boolean false))))
-  sets_one a b ct cr t m p q = record { by = λ rest n le st k c w r.
-      let tail : List Instr = out_unless_set ++ cr in
-      let k1 : Around = before rest (inside 1 k) in
-      after_bind s.m s.u (λ o st c. Stands s (before tail k1) [] (is_there o) (if_there o ++ k.stack) st c) (Decides rest k) a (b + 4) n c (t n st)
-          (λ v. option_map_or (λ _. m) v (give (Boolean false)))
-      (p.by n le st (before tail k1) c w (first_part s depth Where k1 ct tail [] k.stack st c r))
-      (λ o n1 st1 c1 less g. by o rest n1 (omega (arith, less, le)) st1 k c1 w g) }
+  sets_one a b ct cr t m p q = record {
+    by = λ rest n le st k c w r.
+        let tail : List Instr = out_unless_set ++ cr in
+        let k1 : Around = before rest (inside 1 k) in
+        after_bind s.m s.u (λ o st c. Stands s (before tail k1) [] (is_there o) (if_there o ++ k.stack) st c) (Decides rest k) a (b + 4) n c (t n st)
+        (λ v. option_map_or (λ _. m) v (give (Boolean false)))
+        (p.by n le st (before tail k1) c w (first_part s depth Where k1 ct tail [] k.stack st c r))
+        (λ o n1 st1 c1 less g. by o rest n1 (omega (arith, less, le)) st1 k c1 w g);
+  }
     where
       by : (o : Option Value) (rest : List Instr) (n : ℕ) → n ≤ depth → (st : State) (k : Around) (c : Conf) → Where k.situation →
           Stands s (before (out_unless_set ++ cr) (before rest (inside 1 k))) [] (is_there o) (if_there o ++ k.stack) st c →
@@ -74,37 +76,49 @@ module _ (s : Setup) (depth : ℕ) (Where : Situation → Type 0) where
       (i : ℕ) × (i ≤ 4) × Stands s k [] [] (one_value v ++ k.stack) st (reduce php1 s.m i c)
   decided k v st c (inl h) =
       let g = h.1 in
-      let inner : Around = inside 1 (before (boolean false) (inside 1 k)) in
-      (4, omega arith, subst (λ v. Stands s k [] [] (one_value v ++ k.stack) st (reduce php1 s.m 4 c)) (sym h.0) (record {
-        places = g.places; scratch = g.scratch; fits = g.fits;
-        is = reduce_on s.m 3 1 c (Running (Br 1 ∷ []) [] (setting s inner g.scratch g.places (a_value (Boolean true) ∷ k.stack) st))
-                (Running k.rest k.values (setting s k g.scratch g.places (a_value (Boolean true) ∷ k.stack) st))
-            (ap (reduce php1 s.m 3) g.is
-            ∙ row_call s r.Bool (record { passed = word.I32 1 ∷ []; below = [] }) (Br 1 ∷ []) (word.I32 1 ∷ []) inner g.scratch g.places k.stack st refl) refl;
-      }))
+      let inner : Around = inside 1 (before (boolean false) (inside 1 k)) in (
+        4,
+        omega arith,
+        subst (λ v. Stands s k [] [] (one_value v ++ k.stack) st (reduce php1 s.m 4 c)) (sym h.0) (record {
+          places = g.places;
+          scratch = g.scratch;
+          fits = g.fits;
+          is = reduce_on s.m 3 1 c (Running (Br 1 ∷ []) [] (setting s inner g.scratch g.places (a_value (Boolean true) ∷ k.stack) st))
+              (Running k.rest k.values (setting s k g.scratch g.places (a_value (Boolean true) ∷ k.stack) st))
+              (ap (reduce php1 s.m 3) g.is
+              ∙ row_call s r.Bool (record { passed = word.I32 1 ∷ []; below = [] }) (Br 1 ∷ []) (word.I32 1 ∷ []) inner g.scratch g.places k.stack st refl) refl;
+        }),
+      )
   decided k v st c (inr h) =
       let g = h.1 in
-      let outer : Around = inside 1 k in
-      (4, omega arith, subst (λ v. Stands s k [] [] (one_value v ++ k.stack) st (reduce php1 s.m 4 c)) (sym h.0) (record {
-        places = g.places; scratch = g.scratch; fits = g.fits;
-        is = reduce_on s.m 3 1 c (Running [] [] (setting s outer g.scratch g.places (a_value (Boolean false) ∷ k.stack) st))
-                (Running k.rest k.values (setting s k g.scratch g.places (a_value (Boolean false) ∷ k.stack) st))
-            (ap (reduce php1 s.m 3) g.is
-            ∙ row_call s r.Bool (record { passed = word.I32 0 ∷ []; below = [] }) [] (word.I32 0 ∷ []) outer g.scratch g.places k.stack st refl) refl;
-      }))
+      let outer : Around = inside 1 k in (
+        4,
+        omega arith,
+        subst (λ v. Stands s k [] [] (one_value v ++ k.stack) st (reduce php1 s.m 4 c)) (sym h.0) (record {
+          places = g.places;
+          scratch = g.scratch;
+          fits = g.fits;
+          is = reduce_on s.m 3 1 c (Running [] [] (setting s outer g.scratch g.places (a_value (Boolean false) ∷ k.stack) st))
+              (Running k.rest k.values (setting s k g.scratch g.places (a_value (Boolean false) ∷ k.stack) st))
+              (ap (reduce php1 s.m 3) g.is
+              ∙ row_call s r.Bool (record { passed = word.I32 0 ∷ []; below = [] }) [] (word.I32 0 ∷ []) outer g.scratch g.places k.stack st refl) refl;
+        }),
+      )
 
   pub values_isset : (b : ℕ) (tests : List Instr) (m : Means Value) → Sets b tests m → Values s depth Where (b + 6) (isset_blocks tests) m
-  values_isset b tests m p = record { by = λ n le st k c w r.
-      let k1 : Around = before (boolean false) (inside 1 k) in
-      let rest : List Instr = boolean true ++ (Br 1 ∷ []) in
-      let inner : List Instr = tests ++ rest in
-      let outer : List Instr = view.Block no_value inner ∷ boolean false in
-      let c1 : Conf = Running (tests ++ rest) [] (setting s (inside 1 k1) r.scratch r.places k.stack st) in
-      enough s.m s.u (λ v st c. Stands s k [] [] (one_value v ++ k.stack) st c) (2 + (b + 4)) (b + 6) n c (m n st) (omega arith)
-      (after_steps s.m s.u (λ v st c. Stands s k [] [] (one_value v ++ k.stack) st c) 2 (b + 4) n c c1 (m n st)
-      (reduce_on s.m 1 1 c (Running outer [] (setting s (inside 1 k) r.scratch r.places k.stack st)) c1
-          (ap (reduce php1 s.m 1) r.is ∙ step-block php1 s.m no_value outer k.rest k.values (setting s k r.scratch r.places k.stack st))
-          (step-block php1 s.m no_value inner (boolean false) [] (setting s (inside 1 k) r.scratch r.places k.stack st)))
-      (then_steps s.m s.u (Decides rest k1) (λ v st c. Stands s k [] [] (one_value v ++ k.stack) st c) b 4 n c1 (m n st)
-      (p.by rest n le st k1 c1 w (record { places = r.places; scratch = r.scratch; fits = r.fits; is = refl }))
-      (λ v st1 c2 g. decided k v st1 c2 g))) }
+  values_isset b tests m p = record {
+    by = λ n le st k c w r.
+        let k1 : Around = before (boolean false) (inside 1 k) in
+        let rest : List Instr = boolean true ++ (Br 1 ∷ []) in
+        let inner : List Instr = tests ++ rest in
+        let outer : List Instr = view.Block no_value inner ∷ boolean false in
+        let c1 : Conf = Running (tests ++ rest) [] (setting s (inside 1 k1) r.scratch r.places k.stack st) in
+        enough s.m s.u (λ v st c. Stands s k [] [] (one_value v ++ k.stack) st c) (2 + (b + 4)) (b + 6) n c (m n st) (omega arith)
+        (after_steps s.m s.u (λ v st c. Stands s k [] [] (one_value v ++ k.stack) st c) 2 (b + 4) n c c1 (m n st)
+        (reduce_on s.m 1 1 c (Running outer [] (setting s (inside 1 k) r.scratch r.places k.stack st)) c1
+        (ap (reduce php1 s.m 1) r.is ∙ step-block php1 s.m no_value outer k.rest k.values (setting s k r.scratch r.places k.stack st))
+        (step-block php1 s.m no_value inner (boolean false) [] (setting s (inside 1 k) r.scratch r.places k.stack st)))
+        (then_steps s.m s.u (Decides rest k1) (λ v st c. Stands s k [] [] (one_value v ++ k.stack) st c) b 4 n c1 (m n st)
+        (p.by rest n le st k1 c1 w (record { places = r.places; scratch = r.scratch; fits = r.fits; is = refl }))
+        (λ v st1 c2 g. decided k v st1 c2 g)));
+  }

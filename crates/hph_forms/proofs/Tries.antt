@@ -95,10 +95,13 @@ module _ (s : Setup) (depth : ℕ) (item : Item) (base : Base) (steps : List Pat
     where
       Where : Situation → Type 0
       Where = Here s depth item base steps
+
       whole : List Item
       whole = path_items s depth item base steps
+
       inner : List Instr
       inner = cy ++ (steps_number s depth item base steps ∷ call r.PathSet ∷ [])
+
       by : (o : Option Value) → Runs s depth Where (is_there o) (there_or whole o) no_words one_value (b + 6) (Eqz I32 ∷ view.If no_value inner None ∷ [])
           (value_or o (bind y (λ v. write_to s.class base steps v)))
       by None = more s depth Where (as_word false) whole no_words one_value (1 + ((b + 3) + 2)) (b + 6) (omega arith)

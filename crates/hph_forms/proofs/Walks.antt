@@ -125,15 +125,17 @@ module _ (s : Setup) where
     pub stored_replies : (n : ℕ) (item : Item) (base : Base) (rule : Result Stored Fatal) → IsBase s item base k.situation → StoreKeeps st.core.heap.objects rule →
         Replies s k [] no_words one_value n (paths.stored item rule (host_of k p k.stack st)) (bind (settle rule) (λ x. first (change (target.stored base x.1)) (give x.0)) n st)
     stored_replies n item base (Err kind) is keeps = refl
-    stored_replies n item base (Ok x) is keeps = (refl,
-        subst (λ st1. Gives s k [] [] (a_value x.0 ∷ k.stack) st1 (done (push x.0 (with_core (written item x.1) (host_of k p k.stack st)))))
-            (sym (stored_same item base x.1.place x.1.objects is)) (record {
-              places = p;
-              result = None;
-              fits = subst (λ heap. Fits s k.situation p st.frames st.globals heap) (sym (heap_written item x.1.place x.1.objects)) (objects_fit x.1.objects keeps);
-              is = refl;
-              typed = refl;
-            }))
+    stored_replies n item base (Ok x) is keeps = (
+      refl,
+      subst (λ st1. Gives s k [] [] (a_value x.0 ∷ k.stack) st1 (done (push x.0 (with_core (written item x.1) (host_of k p k.stack st)))))
+          (sym (stored_same item base x.1.place x.1.objects is)) (record {
+            places = p;
+            result = None;
+            fits = subst (λ heap. Fits s k.situation p st.frames st.globals heap) (sym (heap_written item x.1.place x.1.objects)) (objects_fit x.1.objects keeps);
+            is = refl;
+            typed = refl;
+          }),
+    )
 
     pub stores : (n : ℕ) (item : Item) (base : Base) (steps : List PathStep) (fit : Item → List PathStep → Bool)
         (go : Item → List PathStep → Option Value → HostState → Replied) (rule : Option ℕ → Heap → Option Value → Result Stored Fatal) →
@@ -145,8 +147,8 @@ module _ (s : Setup) where
         let h : HostState = host_of k p k.stack st in
         let place : Option Value = at_base base st in
         let e : walked_for fit (length steps) (host_of k p (stacked a_step steps ++ (item ∷ k.stack)) st) go ≡ paths.stored item (rule s.class st.core.heap place) h
-            = walked_is item base steps is (λ base steps place below. only_if (fit base steps) (host_of k p (stacked a_step steps ++ (item ∷ k.stack)) st) (go base steps place below))
-            ∙ ap (λ t. only_if t (host_of k p (stacked a_step steps ++ (item ∷ k.stack)) st) (go item steps place h)) fitting ∙ goes place h
-            ∙ ap (λ class. paths.stored item (rule class st.core.heap place) h) class_is in
+        = walked_is item base steps is (λ base steps place below. only_if (fit base steps) (host_of k p (stacked a_step steps ++ (item ∷ k.stack)) st) (go base steps place below))
+        ∙ ap (λ t. only_if t (host_of k p (stacked a_step steps ++ (item ∷ k.stack)) st) (go item steps place h)) fitting ∙ goes place h
+        ∙ ap (λ class. paths.stored item (rule class st.core.heap place) h) class_is in
         subst (λ reply. Replies s k [] no_words one_value n reply (store base (rule s.class) n st)) (sym e)
         (stored_replies n item base (rule s.class st.core.heap place) is (keeps place))

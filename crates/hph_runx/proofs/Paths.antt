@@ -31,7 +31,7 @@ pub along_is : (l : Lowered) (ys : List Lowered) → step_binds l.steps ≡ [] �
     along l ys ≡ all (l.base ∷ all (map step_code l.steps) ∷ all (codes_of ys) ∷ [])
 along_is l ys e f =
     let held : Code = all (l.base ∷ plain (call r.Drop ∷ []) ∷ all (map key_code l.steps) ∷ all (codes_of ys)
-        ∷ plain (repeated (keys_in l.steps + length ys) (call r.Hold ∷ [])) ∷ l.base ∷ all (map held_step_code l.steps) ∷ plain (repeated (length ys) taken) ∷ []) in
+    ∷ plain (repeated (keys_in l.steps + length ys) (call r.Hold ∷ [])) ∷ l.base ∷ all (map held_step_code l.steps) ∷ plain (repeated (length ys) taken) ∷ []) in
     let straight : Code = all (l.base ∷ all (map step_code l.steps) ∷ all (codes_of ys) ∷ []) in
     ap (λ binds. if is_bound l.root (binds ++ binds_of ys) then held else straight) e
     ∙ ap (λ binds. if is_bound l.root binds then held else straight) f
@@ -72,7 +72,7 @@ module _ (plan : Plan) (scope : Scope) (planned : Planned plan scope) (d : ℕ) 
         (mid : Means B) (other : Code) → ((n : ℕ) (st : State) → Told P (mid n st)) → IfSome other (λ code. Runs s d Everywhere [] [] no_words items b3 code mid) →
         (end : List Instr) (go : Base → List PathStep → B → Means A) →
         ((item : Item) (base : Base) (steps : List PathStep) (v : B) → (rooted ≡ true → is_place item ≡ true) → length steps ≡ length ss → P v →
-            Runs s d (IsBase s item base) [] (items v ++ (stacked a_step steps ++ (item ∷ []))) leaves gives b4 end (go base steps v)) →
+        Runs s d (IsBase s item base) [] (items v ++ (stacked a_step steps ++ (item ∷ []))) leaves gives b4 end (go base steps v)) →
         IfSome (all (all (code ∷ all (map step_code ss) ∷ other ∷ []) ∷ plain end ∷ [])) (λ code.
         Runs s d Everywhere [] [] leaves gives ((b1 + 3) + (b2 + (b3 + b4))) code (bind base (λ base. bind (each ms) (λ steps. bind mid (go base steps)))))
     along_runs items P b1 b2 b3 b4 base root code rooted based ms ss steps mid other told p end go runs =
@@ -103,10 +103,26 @@ module _ (plan : Plan) (scope : Scope) (planned : Planned plan scope) (d : ℕ) 
       none : false ≡ true → ⊥
       none e = cc
   as_path b x l c large (whole_variable name runs target p) path = record {
-    b1 = 0; b2 = 0; few = large; rooted = true; is_rooted = λ e. refl; based = on_variable name; means = []; same = refl; steps = no_steps plan scope planned d 0;
+    b1 = 0;
+    b2 = 0;
+    few = large;
+    rooted = true;
+    is_rooted = λ e. refl;
+    based = on_variable name;
+    means = [];
+    same = refl;
+    steps = no_steps plan scope planned d 0;
   }
   as_path b x l c large (behind b1 b2 le base root code rooted based ms ss steps mean value p binds e runs target into) path = record {
-    b1 = b1; b2 = b2; few = le; rooted = rooted; is_rooted = into; based = based; means = ms; same = refl; steps = steps;
+    b1 = b1;
+    b2 = b2;
+    few = le;
+    rooted = rooted;
+    is_rooted = into;
+    based = based;
+    means = ms;
+    same = refl;
+    steps = steps;
   }
 
   -- what may be written is a path
@@ -119,32 +135,32 @@ module _ (plan : Plan) (scope : Scope) (planned : Planned plan scope) (d : ℕ) 
     -- a row behind the steps alone
     pub row_runs : (b4 : ℕ) → b4 ≤ 16 → (end : List Instr) (go : Base → List PathStep → Means A) →
         ((item : Item) (base : Base) (steps : List PathStep) → (target ≡ true → is_place item ≡ true) → length steps ≡ length l.steps →
-            Runs s d (IsBase s item base) [] (stacked a_step steps ++ (item ∷ [])) leaves gives b4 end (go base steps)) →
+        Runs s d (IsBase s item base) [] (stacked a_step steps ++ (item ∷ [])) leaves gives b4 end (go base steps)) →
         IfSome (all (along l [] ∷ plain end ∷ [])) (λ code. Runs s d Everywhere [] [] leaves gives b code (bind x.base (λ base. bind x.steps (go base))))
     row_runs b4 few end go runs =
         subst (λ k. IfSome (all (k ∷ plain end ∷ [])) (λ code. Runs s d Everywhere [] [] leaves gives b code (bind x.base (λ base. bind x.steps (go base)))))
-            (sym (along_is l [] p.steps.binds refl))
+        (sym (along_is l [] p.steps.binds refl))
         (subst (λ steps. IfSome (all (all (l.base ∷ all (map step_code l.steps) ∷ Some [] ∷ []) ∷ plain end ∷ []))
-            (λ code. Runs s d Everywhere [] [] leaves gives b code (bind x.base (λ base. bind steps (go base))))) (sym p.same)
+        (λ code. Runs s d Everywhere [] [] leaves gives b code (bind x.base (λ base. bind steps (go base))))) (sym p.same)
         (holds_more _ _ (all (all (l.base ∷ all (map step_code l.steps) ∷ Some [] ∷ []) ∷ plain end ∷ []))
-            (along_runs leaves gives (λ (u : Unit {0}). []) (λ u. Unit {0}) p.b1 p.b2 0 b4 x.base l.root l.base p.rooted p.based p.means l.steps p.steps nothing (Some []) (λ n st. tt)
-                (at_once s d Everywhere no_words no_items tt) end (λ base steps u. go base steps) (λ item base steps u placed long known. runs item base steps (λ e. placed (p.is_rooted e)) long))
-            (λ code runs. more s d Everywhere [] [] leaves gives ((p.b1 + 3) + (p.b2 + (0 + b4))) b (omega (arith, p.few, few)) runs)))
+        (along_runs leaves gives (λ (u : Unit {0}). []) (λ u. Unit {0}) p.b1 p.b2 0 b4 x.base l.root l.base p.rooted p.based p.means l.steps p.steps nothing (Some []) (λ n st. tt)
+        (at_once s d Everywhere no_words no_items tt) end (λ base steps u. go base steps) (λ item base steps u placed long known. runs item base steps (λ e. placed (p.is_rooted e)) long))
+        (λ code runs. more s d Everywhere [] [] leaves gives ((p.b1 + 3) + (p.b2 + (0 + b4))) b (omega (arith, p.few, few)) runs)))
 
     -- a row behind the steps and a value
     pub row_with_value : (by : ℕ) (y : Lowered) (m : Means Value) → y.binds ≡ [] → IfSome y.value (λ code. Values s d Everywhere by code m) →
         (b4 : ℕ) → b4 ≤ 16 → (end : List Instr) (go : Base → List PathStep → Value → Means A) →
         ((item : Item) (base : Base) (steps : List PathStep) (v : Value) → (target ≡ true → is_place item ≡ true) → length steps ≡ length l.steps →
-            Runs s d (IsBase s item base) [] (a_value v ∷ (stacked a_step steps ++ (item ∷ []))) leaves gives b4 end (go base steps v)) →
+        Runs s d (IsBase s item base) [] (a_value v ∷ (stacked a_step steps ++ (item ∷ []))) leaves gives b4 end (go base steps v)) →
         IfSome (all (along l (y ∷ []) ∷ plain end ∷ [])) (λ code. Runs s d Everywhere [] [] leaves gives (b + by) code
-            (bind x.base (λ base. bind x.steps (λ steps. bind m (go base steps)))))
+        (bind x.base (λ base. bind x.steps (λ steps. bind m (go base steps)))))
     row_with_value by y m e q b4 few end go runs =
         subst (λ k. IfSome (all (k ∷ plain end ∷ [])) (λ code. Runs s d Everywhere [] [] leaves gives (b + by) code (bind x.base (λ base. bind x.steps (λ steps. bind m (go base steps))))))
-            (sym (along_is l (y ∷ []) p.steps.binds (ap (λ binds. binds ++ []) e)))
+        (sym (along_is l (y ∷ []) p.steps.binds (ap (λ binds. binds ++ []) e)))
         (subst (λ steps. IfSome (all (all (l.base ∷ all (map step_code l.steps) ∷ all (y.value ∷ []) ∷ []) ∷ plain end ∷ []))
-            (λ code. Runs s d Everywhere [] [] leaves gives (b + by) code (bind x.base (λ base. bind steps (λ steps. bind m (go base steps)))))) (sym p.same)
+        (λ code. Runs s d Everywhere [] [] leaves gives (b + by) code (bind x.base (λ base. bind steps (λ steps. bind m (go base steps)))))) (sym p.same)
         (holds_more _ _ (all (all (l.base ∷ all (map step_code l.steps) ∷ all (y.value ∷ []) ∷ []) ∷ plain end ∷ []))
-            (along_runs leaves gives one_value (λ v. Unit {0}) p.b1 p.b2 by b4 x.base l.root l.base p.rooted p.based p.means l.steps p.steps m (all (y.value ∷ []))
-                (λ n st. untold (m n st)) (alone_holds (λ code. Values s d Everywhere by code m) y.value q) end go
-                (λ item base steps v placed long known. runs item base steps v (λ e. placed (p.is_rooted e)) long))
-            (λ code runs. more s d Everywhere [] [] leaves gives ((p.b1 + 3) + (p.b2 + (by + b4))) (b + by) (omega (arith, p.few, few)) runs)))
+        (along_runs leaves gives one_value (λ v. Unit {0}) p.b1 p.b2 by b4 x.base l.root l.base p.rooted p.based p.means l.steps p.steps m (all (y.value ∷ []))
+        (λ n st. untold (m n st)) (alone_holds (λ code. Values s d Everywhere by code m) y.value q) end go
+        (λ item base steps v placed long known. runs item base steps v (λ e. placed (p.is_rooted e)) long))
+        (λ code runs. more s d Everywhere [] [] leaves gives ((p.b1 + 3) + (p.b2 + (by + b4))) (b + by) (omega (arith, p.few, few)) runs)))

@@ -79,8 +79,11 @@ module _ (plan : Plan) (scope : Scope) (planned : Planned plan scope) (d : ℕ) 
     pub run : IfSome (all (map step_code ss)) (λ code. Each s d Everywhere a_step b code ms)
 
   pub no_steps : (b : ℕ) → StepsRun b [] []
-  no_steps b = record { binds = refl; long = refl;
-    run = more s d Everywhere [] [] no_words (stacked a_step) 0 b (omega arith) (each_none s d Everywhere a_step) }
+  no_steps b = record {
+    binds = refl;
+    long = refl;
+    run = more s d Everywhere [] [] no_words (stacked a_step) 0 b (omega arith) (each_none s d Everywhere a_step);
+  }
 
   pub data Shape (b : ℕ) : Reading → Lowered → Cover → Type 0 where
     mere_value : (form : Form) → IsMere form → (mean : Means Value) (binds : List Name) → binds ≡ [] → (code : Code) (runs : Bool) → Within b code mean →
@@ -88,8 +91,15 @@ module _ (plan : Plan) (scope : Scope) (planned : Planned plan scope) (d : ℕ) 
         (record { runs = runs; target = false })
     whole_variable : (name : Name) (runs target : Bool) → Within b (slot_code plan scope name (call r.Get)) (look (λ st. unwrap_or (variable_value name st) Null)) →
         Shape b (record { form = plain_variable name; value = look (λ st. unwrap_or (variable_value name st) Null); base = variable_base name; steps = give [] })
-        (record { variable = Some name; root = Some name; is_path = true; base = slot_code plan scope name (call r.Ref); steps = [];
-            value = slot_code plan scope name (call r.Get); binds = [] })
+        (record {
+          variable = Some name;
+          root = Some name;
+          is_path = true;
+          base = slot_code plan scope name (call r.Ref);
+          steps = [];
+          value = slot_code plan scope name (call r.Get);
+          binds = [];
+        })
         (record { runs = runs; target = target })
     behind : (b1 b2 : ℕ) → b1 + (b2 + 64) ≤ b → (base : Means Base) (root : Option Name) (code : Code) (rooted : Bool) → Based b1 base root code rooted →
         (ms : List (Means PathStep)) (ss : List Step) → StepsRun b2 ms ss → (mean : Means Value) (value : Code) → Within b value mean →

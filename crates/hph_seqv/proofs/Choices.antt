@@ -89,17 +89,21 @@ module _ (s : Setup) (depth : ℕ) (Where : Situation → Type 0) where
     -- code is passed where a number isn't 0, and entered where it is
     pub enters_unless : (a : ℕ) (code : List Instr) (x : Means A) → Runs s depth Where [] items leaves gives a code x →
         Runs s depth Where (as_word false) items leaves gives (1 + (a + 2)) (Eqz I32 ∷ view.If no_value code None ∷ []) x
-    enters_unless a code x p = record { by = λ n le st k c w r.
-        after_steps s.m s.u (λ a st c. Stands s k [] (leaves a) (gives a ++ k.stack) st c) 1 (a + 2) n c (reduce php1 s.m 1 c) (x n st) refl
-        ((first_branch a code None x p).by n le st k (reduce php1 s.m 1 c) w
-        (record { places = r.places; scratch = r.scratch; fits = r.fits; is = ap (reduce php1 s.m 1) r.is })) }
+    enters_unless a code x p = record {
+      by = λ n le st k c w r.
+          after_steps s.m s.u (λ a st c. Stands s k [] (leaves a) (gives a ++ k.stack) st c) 1 (a + 2) n c (reduce php1 s.m 1 c) (x n st) refl
+          ((first_branch a code None x p).by n le st k (reduce php1 s.m 1 c) w
+          (record { places = r.places; scratch = r.scratch; fits = r.fits; is = ap (reduce php1 s.m 1) r.is }));
+    }
 
     pub passes_unless : (code : List Instr) (y : Means A) → Runs s depth Where [] items leaves gives 0 [] y →
         Runs s depth Where (as_word true) items leaves gives 3 (Eqz I32 ∷ view.If no_value code None ∷ []) y
-    passes_unless code y q = record { by = λ n le st k c w r.
-        after_steps s.m s.u (λ a st c. Stands s k [] (leaves a) (gives a ++ k.stack) st c) 1 (0 + 2) n c (reduce php1 s.m 1 c) (y n st) refl
-        ((second_branch 0 code None y q).by n le st k (reduce php1 s.m 1 c) w
-        (record { places = r.places; scratch = r.scratch; fits = r.fits; is = ap (reduce php1 s.m 1) r.is })) }
+    passes_unless code y q = record {
+      by = λ n le st k c w r.
+          after_steps s.m s.u (λ a st c. Stands s k [] (leaves a) (gives a ++ k.stack) st c) 1 (0 + 2) n c (reduce php1 s.m 1 c) (y n st) refl
+          ((second_branch 0 code None y q).by n le st k (reduce php1 s.m 1 c) w
+          (record { places = r.places; scratch = r.scratch; fits = r.fits; is = ap (reduce php1 s.m 1) r.is }));
+    }
 
   -- the other truth value
   pub turns_round : (t : Bool) → Runs s depth Where (as_word t) [] as_word no_items 1 (Eqz I32 ∷ []) (give (not t))

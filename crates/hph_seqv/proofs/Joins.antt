@@ -94,16 +94,20 @@ module _ (s : Setup) (depth : ℕ) (Where : Situation → Type 0) where
   pub makes : {A B : Type 0} (values : List Word) (items : List Item) (leaves : A → List Word) (gives : A → List Item) (leaves_b : B → List Word)
       (gives_b : B → List Item) (b : ℕ) (code : List Instr) (mean : Means A) (go : A → B) →
       ((a : A) (k : Around) (st : State) (c : Conf) → Stands s k [] (leaves a) (gives a ++ k.stack) st c →
-          Stands s k [] (leaves_b (go a)) (gives_b (go a) ++ k.stack) st c) →
+      Stands s k [] (leaves_b (go a)) (gives_b (go a) ++ k.stack) st c) →
       Runs s depth Where values items leaves gives b code mean →
       Runs s depth Where values items leaves_b gives_b b code (bind mean (λ a. give (go a)))
-  makes values items leaves gives leaves_b gives_b b code mean go same p = record { by = λ n le st k c w r.
-      mapped s.m s.u (λ a st c. Stands s k [] (leaves a) (gives a ++ k.stack) st c) (λ a st c. Stands s k [] (leaves_b a) (gives_b a ++ k.stack) st c)
-      b n c (mean n st) go (p.by n le st k c w r) (λ a st1 c1 g. same a k st1 c1 g) }
+  makes values items leaves gives leaves_b gives_b b code mean go same p = record {
+    by = λ n le st k c w r.
+        mapped s.m s.u (λ a st c. Stands s k [] (leaves a) (gives a ++ k.stack) st c) (λ a st c. Stands s k [] (leaves_b a) (gives_b a ++ k.stack) st c)
+        b n c (mean n st) go (p.by n le st k c w r) (λ a st1 c1 g. same a k st1 c1 g);
+  }
 
   -- a meaning that is the same in each state
   pub meant : {A : Type 0} (values : List Word) (items : List Item) (leaves : A → List Word) (gives : A → List Item) (b : ℕ) (code : List Instr)
       (x y : Means A) → ((n : ℕ) (st : State) → x n st ≡ y n st) → Runs s depth Where values items leaves gives b code x →
       Runs s depth Where values items leaves gives b code y
-  meant values items leaves gives b code x y same p = record { by = λ n le st k c w r.
-      subst (λ answer. Follows s.m s.u (λ a st c. Stands s k [] (leaves a) (gives a ++ k.stack) st c) b n c answer) (same n st) (p.by n le st k c w r) }
+  meant values items leaves gives b code x y same p = record {
+    by = λ n le st k c w r.
+        subst (λ answer. Follows s.m s.u (λ a st c. Stands s k [] (leaves a) (gives a ++ k.stack) st c) b n c answer) (same n st) (p.by n le st k c w r);
+  }
