@@ -1,10 +1,12 @@
 -- The state of a host of hph_effects that a state in code is, beside the output; and what it means that a call in code takes
 -- something off the state, or that its answer is what a definition gives.
 use Rattle.std.specs.Prelude.{◌≡◌, ℕ, List, [], map, drop, Option, None, Some, Result, Ok, Err}
+use Rattle.hph_array.specs.declared.key.Key as keys
 use Rattle.hph_array.specs.Array.{array_map}
 use Rattle.hph_wasm.specs.Configuration.{Goes, Stops}
 use Rattle.hph_php.specs.declared.fatal.Fatal.TheVariants.{Misuse}
 use Rattle.hph_php.specs.Answers.{Fails}
+use Rattle.hph_php.specs.Values as php
 use Rattle.hph_php.specs.Paths.{by_key, at_end, by_property}
 use Rattle.hph_php.specs.State.{empty_core}
 use Rattle.hph_effects.specs.Hosts.{HostState, Serving, Halted, Replied, a_value, a_step, an_item, an_iterator}
@@ -16,6 +18,9 @@ use Rattle.hph_host_state.specs.declared.item.Item.{Item}
 use Rattle.hph_host_state.specs.declared.item.Item.TheVariants.{Value, Key, Append, Property}
 use Rattle.hph_host_state.specs.declared.item.Held.{Held}
 use Rattle.hph_host_state.specs.declared.item.Held.TheVariants as held
+use Rattle.hph_host_state.specs.declared.item.Held.TheVariants.{Loop}
+use Rattle.hph_host_state.specs.declared.item.Turns.{Turns}
+use Rattle.hph_host_state.specs.declared.item.Turns.TheVariants.{Over, Nothing}
 use Rattle.hph_host_state.specs.declared.state.State.{State}
 
 abbrev pub item_of : Item → hosts.Item
@@ -24,10 +29,14 @@ item_of (Key key) = a_step (by_key (value_of key))
 item_of Append = a_step at_end
 item_of (Property name) = a_step (by_property name)
 
+-- the pairs that a loop has still to go through
+abbrev pub left : Turns → List (keys.Key × php.Value)
+left (Over elements at) = drop at (array_map value_of elements.map).pairs
+left Nothing = []
+
 abbrev pub held_of : Held → hosts.Held
 held_of (held.Item item) = an_item (item_of item)
-held_of (held.Turns elements at) = an_iterator (drop at (array_map value_of elements.map).pairs)
-held_of held.NoTurns = an_iterator []
+held_of (Loop turns) = an_iterator (left turns)
 
 -- the state of a host that has printed this
 abbrev pub seen : List ℕ → State → HostState

@@ -34,9 +34,14 @@ impl Clone for Item {
 #[derive(Drop)]
 pub enum Held {
     Item(Item),
-    /// A loop over an array, which has still to go through its pairs from a place on. The array is shared, so what is written to
-    /// a variable that holds it doesn't show.
-    Turns(Shared<Elements<Value>>, usize),
-    /// A loop over a value that is no array.
-    NoTurns,
+    Loop(Turns),
+}
+
+/// What a loop over a value has still to go through.
+#[derive(Drop)]
+pub enum Turns {
+    /// The pairs of an array from a place on. The array is shared, so what is written to a variable that holds it doesn't show.
+    Over(Shared<Elements<Value>>, usize),
+    /// Nothing, for a value that is no array.
+    Nothing,
 }

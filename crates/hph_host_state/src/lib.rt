@@ -7,5 +7,5 @@
 mod item;
 mod state;
 
-pub use item::{Held, Item};
+pub use item::{Held, Item, Turns};
 pub use state::{Answer, MISUSE, State};

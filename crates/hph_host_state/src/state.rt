@@ -1,18 +1,18 @@
 //! The state, and what is taken off its operand stack and put there.
-ghost use Rattle.std.specs.Prelude.{Result};
+ghost use Rattle.std.specs.Prelude.{◌≡◌, ℕ, List, Result, OnOk};
 ghost use Rattle.hph_php.specs.declared.fatal.Fatal.{Fatal};
 ghost use Rattle.hph_php.specs.Values as php;
 ghost use Rattle.hph_effects.specs.Hosts.{a_value, the_text, done, push, push_item, popped, popped_any, popped_item, popped_text, settled};
 ghost use Rattle.hph_value.specs.Shown.{value_of};
 ghost use Rattle.hph_value.specs.Shown as value;
-ghost use Rattle.hph_host_state.specs.States.{item_of, Takes, Serves, Finds};
+ghost use Rattle.hph_host_state.specs.States.{item_of, seen, Takes, Serves, Finds};
 
 use crate::item::{Held, Item};
 use hph_array::Bytes;
 use hph_php::Fatal;
 use hph_pile::Pile;
 use hph_value::{Stop, Value};
-use std::alloc::Global;
+use std::alloc::{AllocError, Global};
 
 /// The state of a host that serves a program, without its output.
 #[derive(Drop)]
@@ -64,6 +64,13 @@ impl State {
             Item::Value(value) => text_of(&value),
             _ => Err(MISUSE),
         }
+    }
+
+    /// Puts an item on top, before more is done.
+    pub fn put(&mut self, item: Item) -> Result<(), AllocError>
+        ensures { OnOk result ((out : List ℕ) → seen out self.new ≡ push_item (item_of item) (seen out self.old)) }
+    {
+        self.stack.push(item)
     }
 
     /// Puts an item on top.
