@@ -79,7 +79,7 @@ module _ (s : Setup) where
     base_same _ base is = absurd is
 
   module _ (k : Around) (p : Places) (st : State) (fits : Fits s k.situation p st.frames st.globals st.core.heap) where
-    class_is : class_in (slots.frames_with p.own k.situation.hosts) ≡ s.class
+    pub class_is : class_in (slots.frames_with p.own k.situation.hosts) ≡ s.class
     class_is = class_are k.situation.hosts p.own ∙ fits.stays.class
 
     pub walked_is : (item : Item) (base : Base) (steps : List PathStep) → IsBase s item base k.situation →

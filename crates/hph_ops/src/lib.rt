@@ -10,7 +10,7 @@ mod orders;
 mod texts;
 mod unions;
 
-pub use arrays::append;
+pub use arrays::{append, append_to, appends_along_a_path};
 pub use casts::unary;
 pub use moves::{decremented, incremented};
 pub use numbers::{
@@ -18,5 +18,5 @@ pub use numbers::{
     shift_left, shift_right, sum,
 };
 pub use orders::order;
-pub use texts::joined_onto;
+pub use texts::{join_to, joined_onto};
 pub use unions::union;

@@ -20,7 +20,7 @@ use Rattle.hph_effects.specs.Hosts.{Item}
 use Rattle.hph_effects.specs.Effects.{php1}
 use Rattle.hph_seqv.specs.Simulates.{Conf, Follows, Setup, call, Situation, Around, Places, Fits, setting, Stands, Runs, no_words, no_items, one_value, Values, After}
 use Rattle.hph_seqv.proofs.Steps.{after_steps, enough, got, then_steps}
-use Rattle.hph_seqv.proofs.Joins.{then_on}
+use Rattle.hph_seqv.proofs.Joins.{more, then_on}
 use Rattle.hph_seqv.proofs.Values.{as_word, tests}
 
 abbrev pub no_value : BlockType
@@ -62,25 +62,47 @@ module _ (s : Setup) (depth : ℕ) (Where : Situation → Type 0) where
         (λ v st1 c2 g. (1, omega arith, leaves_block after k (leaves v) (gives v ++ k.stack) st1 c2 g)))
 
     -- one of two codes, the second of which may be left out
-    pub chooses : (a b : ℕ) (ca : List Instr) (other : Option (List Instr)) (x y : Means A) → Runs s depth Where [] items leaves gives a ca x →
-        Runs s depth Where [] items leaves gives b (else_list other) y → (t : Bool) →
-        Runs s depth Where (as_word t) items leaves gives (a + (b + 2)) (view.If no_value ca other ∷ []) (if t then x else y)
-    chooses a b ca other x y p q true = record {
+    pub first_branch : (a : ℕ) (ca : List Instr) (other : Option (List Instr)) (x : Means A) → Runs s depth Where [] items leaves gives a ca x →
+        Runs s depth Where (as_word true) items leaves gives (a + 2) (view.If no_value ca other ∷ []) x
+    first_branch a ca other x p = record {
       by = λ n le st k c w r.
-          let after : ℕ = 1 + else_list_size other in
-          enough s.m s.u (λ a st c. Stands s k [] (leaves a) (gives a ++ k.stack) st c) (1 + (a + 1)) (a + (b + 2)) n c (x n st) (omega arith)
-          (through_block after 1 a n k ca x st c r.scratch r.places p le w r.fits
+          enough s.m s.u (λ a st c. Stands s k [] (leaves a) (gives a ++ k.stack) st c) (1 + (a + 1)) (a + 2) n c (x n st) (omega arith)
+          (through_block (1 + else_list_size other) 1 a n k ca x st c r.scratch r.places p le w r.fits
           (ap (reduce php1 s.m 1) r.is ∙ step-if php1 s.m no_value ca other 1 k.rest k.values (setting s k r.scratch r.places (items ++ k.stack) st)));
     }
-    chooses a b ca other x y p q false = record {
+
+    pub second_branch : (b : ℕ) (ca : List Instr) (other : Option (List Instr)) (y : Means A) → Runs s depth Where [] items leaves gives b (else_list other) y →
+        Runs s depth Where (as_word false) items leaves gives (b + 2) (view.If no_value ca other ∷ []) y
+    second_branch b ca other y q = record {
       by = λ n le st k c w r.
-          enough s.m s.u (λ a st c. Stands s k [] (leaves a) (gives a ++ k.stack) st c) (1 + (b + 1)) (a + (b + 2)) n c (y n st) (omega arith)
+          enough s.m s.u (λ a st c. Stands s k [] (leaves a) (gives a ++ k.stack) st c) (1 + (b + 1)) (b + 2) n c (y n st) (omega arith)
           (through_block 1 1 b n k (else_list other) y st c r.scratch r.places q le w r.fits
           (ap (reduce php1 s.m 1) r.is ∙ step-if php1 s.m no_value ca other 0 k.rest k.values (setting s k r.scratch r.places (items ++ k.stack) st)));
     }
 
+    pub chooses : (a b : ℕ) (ca : List Instr) (other : Option (List Instr)) (x y : Means A) → Runs s depth Where [] items leaves gives a ca x →
+        Runs s depth Where [] items leaves gives b (else_list other) y → (t : Bool) →
+        Runs s depth Where (as_word t) items leaves gives (a + (b + 2)) (view.If no_value ca other ∷ []) (if t then x else y)
+    chooses a b ca other x y p q true = more s depth Where (as_word true) items leaves gives (a + 2) (a + (b + 2)) (omega arith) (first_branch a ca other x p)
+    chooses a b ca other x y p q false = more s depth Where (as_word false) items leaves gives (b + 2) (a + (b + 2)) (omega arith) (second_branch b ca other y q)
+
+    -- code is passed where a number isn't 0, and entered where it is
+    pub enters_unless : (a : ℕ) (code : List Instr) (x : Means A) → Runs s depth Where [] items leaves gives a code x →
+        Runs s depth Where (as_word false) items leaves gives (1 + (a + 2)) (Eqz I32 ∷ view.If no_value code None ∷ []) x
+    enters_unless a code x p = record { by = λ n le st k c w r.
+        after_steps s.m s.u (λ a st c. Stands s k [] (leaves a) (gives a ++ k.stack) st c) 1 (a + 2) n c (reduce php1 s.m 1 c) (x n st) refl
+        ((first_branch a code None x p).by n le st k (reduce php1 s.m 1 c) w
+        (record { places = r.places; scratch = r.scratch; fits = r.fits; is = ap (reduce php1 s.m 1) r.is })) }
+
+    pub passes_unless : (code : List Instr) (y : Means A) → Runs s depth Where [] items leaves gives 0 [] y →
+        Runs s depth Where (as_word true) items leaves gives 3 (Eqz I32 ∷ view.If no_value code None ∷ []) y
+    passes_unless code y q = record { by = λ n le st k c w r.
+        after_steps s.m s.u (λ a st c. Stands s k [] (leaves a) (gives a ++ k.stack) st c) 1 (0 + 2) n c (reduce php1 s.m 1 c) (y n st) refl
+        ((second_branch 0 code None y q).by n le st k (reduce php1 s.m 1 c) w
+        (record { places = r.places; scratch = r.scratch; fits = r.fits; is = ap (reduce php1 s.m 1) r.is })) }
+
   -- the other truth value
-  pub turns_round : (t : Bool) → Runs s depth Where (as_word t) [] (as_word) no_items 1 (Eqz I32 ∷ []) (give (not t))
+  pub turns_round : (t : Bool) → Runs s depth Where (as_word t) [] as_word no_items 1 (Eqz I32 ∷ []) (give (not t))
   turns_round true = record {
     by = λ n le st k c w r.
         got s.m s.u (λ a st c. Stands s k [] (as_word a) k.stack st c) 1 1 n c (reduce php1 s.m 1 c) false st (omega arith) refl

@@ -1,12 +1,12 @@
 -- Code behind code, code above what lies on the stacks, and larger budgets.
-use Rattle.std.proofs.Common.{ℕ, ◌+◌, ◌≤◌, List, [], ◌++◌, refl, sym, ap, ◌∙◌, arith, append_assoc}
+use Rattle.std.proofs.Common.{◌≡◌, subst, ℕ, ◌+◌, ◌≤◌, List, [], ◌++◌, refl, sym, ap, ◌∙◌, arith, append_assoc}
 use Rattle.hph_wasm.specs.declared.instr.Instr.{Instr}
 use Rattle.hph_wasm.specs.declared.value.Value.{Value as Word}
 use Rattle.hph_wasm.specs.Configuration.{Running}
 use Rattle.hph_php.specs.State.{State}
 use Rattle.hph_php.specs.Answers.{Means, bind, give}
 use Rattle.hph_effects.specs.Hosts.{Item}
-use Rattle.hph_seqv.specs.Simulates.{Conf, Setup, Situation, Around, setting, Stands, Runs}
+use Rattle.hph_seqv.specs.Simulates.{Follows, Conf, Setup, Situation, Around, setting, Stands, Runs}
 use Rattle.hph_seqv.proofs.Steps.{enough, got, after_bind, said, mapped}
 
 -- what stands around the first part of some code
@@ -100,3 +100,10 @@ module _ (s : Setup) (depth : ℕ) (Where : Situation → Type 0) where
   makes values items leaves gives leaves_b gives_b b code mean go same p = record { by = λ n le st k c w r.
       mapped s.m s.u (λ a st c. Stands s k [] (leaves a) (gives a ++ k.stack) st c) (λ a st c. Stands s k [] (leaves_b a) (gives_b a ++ k.stack) st c)
       b n c (mean n st) go (p.by n le st k c w r) (λ a st1 c1 g. same a k st1 c1 g) }
+
+  -- a meaning that is the same in each state
+  pub meant : {A : Type 0} (values : List Word) (items : List Item) (leaves : A → List Word) (gives : A → List Item) (b : ℕ) (code : List Instr)
+      (x y : Means A) → ((n : ℕ) (st : State) → x n st ≡ y n st) → Runs s depth Where values items leaves gives b code x →
+      Runs s depth Where values items leaves gives b code y
+  meant values items leaves gives b code x y same p = record { by = λ n le st k c w r.
+      subst (λ answer. Follows s.m s.u (λ a st c. Stands s k [] (leaves a) (gives a ++ k.stack) st c) b n c answer) (same n st) (p.by n le st k c w r) }

@@ -72,7 +72,7 @@ other_named (p ∷ ps) name other l apart = by (bytes_eq name p.0) refl (other_n
         rw (e, differs) refl
     by false e rest = rw e (ap (λ o. cond (bytes_eq other p.0) (Some p.1) o) rest)
 
-some_same : (a b : ℕ) → ◌≡◌ {A = Option ℕ} (Some a) (Some b) → a ≡ b
+pub some_same : (a b : ℕ) → ◌≡◌ {A = Option ℕ} (Some a) (Some b) → a ≡ b
 some_same a b e = ap (λ o. unwrap_or o 0) e
 
 none_some : (l : ℕ) → ◌≡◌ {A = Option ℕ} None (Some l) → ⊥

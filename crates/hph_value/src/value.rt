@@ -34,6 +34,16 @@ pub struct Elements<V> {
     spare: Vec<V>,
 }
 
+impl<V: Drop> Elements<V> {
+    /// The first owner of the pairs of an array.
+    pub fn shared(alloc: Global, map: OrdMap<V>) -> Result<Shared<Elements<V>>, AllocError>
+        ensures { IfOk result (λ elements. elements.map ≡ map) }
+    {
+        let spare = Vec::new(alloc);
+        Shared::new(alloc, Elements { map, spare })
+    }
+}
+
 /// Why an operation has no value.
 #[derive(Clone, Copy, Debug, PartialEq, Eq)]
 pub enum Stop {
@@ -121,8 +131,7 @@ impl Value {
     pub fn array(alloc: Global, map: OrdMap<Value>) -> Result<Value, AllocError>
         ensures { IfOk result (λ value. value_of value ≡ array_value (array_map value_of map)) }
     {
-        let spare = Vec::new(alloc);
-        Ok(Value::Arr(Shared::new(alloc, Elements { map, spare })?))
+        Ok(Value::Arr(Elements::shared(alloc, map)?))
     }
 }
 
@@ -139,13 +148,14 @@ fn let_go(mut values: Vec<Value>) {
     }
 }
 
-/// The pairs of an array, to be written: its own where nothing else shares them, which takes no memory, else a copy.
+/// The pairs of an array, to be written: its own where nothing else shares them, which takes no memory, else a copy with
+/// room for one more.
 pub fn owned_map(array: Shared<Elements<Value>>) -> Result<OrdMap<Value>, AllocError>
     ensures { IfOk result (λ map. map ≡ array.map) }
 {
     match array.try_own() {
         Ok(elements) => Ok(elements.map),
-        Err(shared) => shared.get().map.copy(),
+        Err(shared) => shared.get().map.copy_with_room(1),
     }
 }
 

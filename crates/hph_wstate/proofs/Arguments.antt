@@ -1,5 +1,5 @@
 -- The arguments of a call.
-use Rattle.std.proofs.Common.{◌≡◌, ◌≢◌, ◌∙◌, ◌≤◌, ◌<◌, ◌+◌, ℕ, zero, suc, List, [], ◌∷◌, ◌++◌, Some, None, Bool, true, false, length, take, drop, reverse, refl, sym, ap, subst, arith, append_assoc}
+use Rattle.std.proofs.Common.{map, ◌^◌, ◌-◌, ◌≡◌, ◌≢◌, ◌∙◌, ◌≤◌, ◌<◌, ◌+◌, ℕ, zero, suc, List, [], ◌∷◌, ◌++◌, Some, None, Bool, true, false, length, take, drop, reverse, refl, sym, ap, subst, arith, append_assoc}
 use Rattle.std.proofs.lemmas.List.{append-nil, reverse-append, length-reverse, length-take-le, reverse-reverse, map-append, take_more}
 use Rattle.std.specs.Prelude.{slice_get}
 use Rattle.std.proofs.lemmas.Option.{slice_get_within, get_or_from_slice_get}
@@ -9,7 +9,9 @@ use Rattle.hph_wasm.specs.declared.types.ValType.{ValType}
 use Rattle.hph_wasm.specs.declared.types.ValType.TheVariants.{I32, I64}
 use Rattle.hph_wasm.specs.declared.value.Value.{Value}
 use Rattle.hph_wasm.specs.declared.value.Value.TheVariants as value
-use Rattle.hph_wasm.specs.Values.{type_of, types}
+use Rattle.hph_wasm.specs.HostAnswers.{FitParams}
+use Rattle.hph_wasm.specs.Values.{number_of, type_of, types, width}
+use Rattle.hph_pile.proofs.Turned.{element_turned}
 use Rattle.hph_wasm.specs.Reduction.{arguments_onto, arguments}
 
 types_reversed : (values : List Value) → types (reverse values) ≡ reverse (types values)
@@ -62,6 +64,12 @@ there params values passed e h =
     ap (λ (l : List Value). Some (record { passed = l; below = drop (length (reverse params)) values })) (append-nil (reverse (take (length (reverse params)) values))) ∙
     ap (λ (n : ℕ). Some (record { passed = reverse (take n values); below = drop n values })) size ∙
     ap (λ (l : List Value). Some (record { passed = l; below = drop (length params) values })) (sym e)
+
+get_front : {A : Type 0} (n i : ℕ) (xs : List A) → i < n → slice_get (take n xs) i ≡ slice_get xs i
+get_front zero i xs h = absurd (omega arith)
+get_front (suc n) i [] h = refl
+get_front (suc n) zero (x ∷ xs) h = refl
+get_front (suc n) (suc i) (x ∷ xs) h = get_front n i xs (omega arith)
 
 one_more : {A : Type 0} (xs : List A) (k : ℕ) (x : A) → slice_get xs k ≡ Some x → take (k + 1) xs ≡ take k xs ++ x ∷ []
 one_more xs k x e = take_more xs k x (slice_get_within xs k x e) ∙ ap (λ y. take k xs ++ y ∷ []) (get_or_from_slice_get xs k x x e)
@@ -147,3 +155,59 @@ pub held : (params : List ValType) (values : List Value) → Holds params values
     arguments params values ≡ Some (record { passed = reverse (take (length params) values); below = drop (length params) values })
 held params values (few, h) = there params values (reverse (take (length params) values)) refl
     (types_reversed (take (length params) values) ∙ (ap reverse h ∙ reverse-reverse params))
+
+-- ---- numbers of arguments
+
+fit_more : (ts : List ValType) (ns : List ℕ) (t : ValType) (n : ℕ) → FitParams ts ns → n < 2 ^ width t → FitParams (ts ++ t ∷ []) (ns ++ n ∷ [])
+fit_more [] [] t n f h = (h, tt)
+fit_more [] (k ∷ ns) t n f h = absurd f
+fit_more (u ∷ ts) [] t n f h = absurd f
+fit_more (u ∷ ts) (k ∷ ns) t n f h = (f.0, fit_more ts ns t n f.1 h)
+
+type_at : (values : List Value) (k : ℕ) (v : Value) → slice_get values k ≡ Some v → slice_get (types values) k ≡ Some (type_of v)
+type_at [] k v e = let no : ⊥ = cc in absurd no
+type_at (w ∷ values) zero v e = let same : w ≡ v = cc in ap (λ x. Some (type_of x)) same
+type_at (w ∷ values) (suc k) v e = type_at values k v e
+
+module _ (stack : List Value) (own : ℕ) (params : List ValType) (few : own ≤ length stack) (holds : Holds params (take own stack) true) where
+  abbrev passed : List Value
+  passed = reverse (take (length params) (take own stack))
+
+  enough : length params ≤ own
+  enough = let whole = length-take-le own stack few in let held = holds.0 in omega arith
+
+  size : length passed ≡ length params
+  size = length-reverse (take (length params) (take own stack)) ∙ length-take-le (length params) (take own stack) holds.0
+
+  typed : types passed ≡ params
+  typed = types_reversed (take (length params) (take own stack)) ∙ (ap reverse holds.1 ∙ reverse-reverse params)
+
+  argument_at : (k : ℕ) (v : Value) → k < length params → Some v ≡ slice_get stack (length params - 1 - k) → slice_get passed k ≡ Some v
+  argument_at k v h at =
+      let front : take (length params) (take own stack) ≡ take (length params) stack = front_of_front (length params) own stack enough in
+      let long : length (take (length params) stack) ≡ length params = let held = enough in length-take-le (length params) stack (omega arith) in
+      let here : slice_get (take (length params) stack) (length params - 1 - k) ≡ Some v =
+      get_front (length params) (length params - 1 - k) stack (omega arith) ∙ sym at in
+      ap (λ l. slice_get (reverse l) k) front ∙ (sym (element_turned (take (length params) stack) k (omega arith)) ∙
+      (ap (λ n. slice_get (take (length params) stack) (n - 1 - k)) long ∙ here))
+
+  pub one_more_number : (k n : ℕ) (v : Value) (numbers new : List ℕ) → k < length params → Some v ≡ slice_get stack (length params - 1 - k) →
+      n ≡ number_of v → n < 2 ^ width (type_of v) → new ≡ numbers ++ n ∷ [] →
+      (numbers ≡ map number_of (take k (reverse (take (length params) (take own stack))))) × FitParams (take k params) numbers →
+      (new ≡ map number_of (take (k + 1) (reverse (take (length params) (take own stack))))) × FitParams (take (k + 1) params) new
+  one_more_number k n v numbers new h at is fits more (so_far, fit) =
+      let there : slice_get passed k ≡ Some v = argument_at k v h at in
+      let kind : slice_get params k ≡ Some (type_of v) = ap (λ l. slice_get l k) (sym typed) ∙ type_at passed k v there in (
+        more ∙ (ap (λ l. l ++ n ∷ []) so_far ∙ (ap (λ n. map number_of (take k passed) ++ n ∷ []) is ∙
+            (sym (map-append number_of (take k passed) (v ∷ [])) ∙ ap (map number_of) (sym (one_more passed k v there))))),
+        subst (λ l. FitParams (take (k + 1) params) l) (sym more)
+            (subst (λ l. FitParams l (numbers ++ n ∷ [])) (sym (one_more params k (type_of v) kind)) (fit_more (take k params) numbers (type_of v) n fit fits)),
+      )
+
+  pub all_numbers : (k : ℕ) (numbers : List ℕ) → k ≡ length params →
+      (numbers ≡ map number_of (take k (reverse (take (length params) (take own stack))))) × FitParams (take k params) numbers →
+      (numbers ≡ map number_of (reverse (take (length params) (take own stack)))) × FitParams params numbers
+  all_numbers k numbers e (so_far, fit) = (
+    so_far ∙ ap (map number_of) (ap (λ n. take n passed) (e ∙ sym size) ∙ take-length passed),
+    subst (λ l. FitParams l numbers) (ap (λ n. take n params) e ∙ take-length params) fit,
+  )

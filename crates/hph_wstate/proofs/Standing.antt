@@ -10,7 +10,7 @@ use Rattle.hph_wasm.specs.declared.module.Func.{Func}
 use Rattle.hph_wasm.specs.Values.{zero_values}
 use Rattle.hph_wstate.specs.declared.layers.Side.{Side}
 use Rattle.hph_wstate.specs.declared.layers.Side.TheVariants.{Loop}
-use Rattle.hph_wstate.specs.Changes.{Outside, Skipped, Left, TellsLabel, TellsFrame, code_outside}
+use Rattle.hph_wstate.specs.Changes.{Outside, Skipped, Left, TellsLabel, LabelIs, TellsFrame, FunctionIs, code_outside}
 use Rattle.hph_wstate.specs.Changes as reached
 use Rattle.hph_wstate.specs.declared.layers.Entered.{Entered}
 use Rattle.hph_wstate.specs.declared.layers.Caller.{Caller}
@@ -268,6 +268,25 @@ label_told (suc n) zero (d ∷ es) below e at h = let same : e ≡ d = cc in
     rw same (label_around d.side d.gives d.here.now (take d.saved below), refl, refl)
 label_told (suc n) (suc k) (d ∷ es) below e at h = label_told n k es (drop d.saved below) e at (omega arith)
 
+pub label_found : (own_es k : ℕ) (es : List Entered) (below : List Value) (e : Entered) → Some e ≡ slice_get es k → k < own_es →
+    LabelIs (labels_of (take own_es es) below) k (Some e)
+label_found zero k es below e at h = absurd (omega arith)
+label_found (suc n) k [] below e at h = let no : ⊥ = cc in absurd no
+label_found (suc n) zero (d ∷ es) below e at h = let same : e ≡ d = cc in
+    rw same (label_around d.side d.gives d.here.now (take d.saved below), refl, refl, refl)
+label_found (suc n) (suc k) (d ∷ es) below e at h = label_found n k es (drop d.saved below) e at (omega arith)
+
+pub function_found : (cs : List Caller) (es : List Entered) (below : List Value) (c : Caller) → Some c ≡ slice_get cs 0 →
+    FunctionIs (frames_of cs es below) (Some c.function)
+function_found [] es below c e = let no : ⊥ = cc in absurd no
+function_found (d ∷ cs) es below c e = let same : c ≡ d = cc in
+    rw same (
+      frame_around d (labels_of (take d.entered es) (drop d.saved below)) (take d.saved below),
+      frames_of cs (drop d.entered es) (under (take d.entered es) (drop d.saved below)),
+      refl,
+      refl,
+    )
+
 pub no_label_told : (es : List Entered) (k : ℕ) → None ≡ slice_get es k → length es ≤ k
 no_label_told [] k e = omega arith
 no_label_told (d ∷ es) zero e = let no : ⊥ = cc in absurd no
@@ -329,17 +348,14 @@ counts_dropped stack own n es own_es cs h counts = record {
   of_labels = counts.of_labels;
 }
 
-pub taken_done : (code : List Instr) (held : Held) (cs : List Caller) (stack stack2 : List Value) (own n : ℕ) (es : List Entered) (own_es : ℕ)
-    (values : List Value) → n ≤ own → own ≤ length stack → stack2 ≡ drop n stack → values ≡ reverse (take n stack) →
-    reached.Taken n (core_of code stack own es own_es held cs) (Some values) (core_of code stack2 (own - n) es own_es held cs)
-taken_done code held cs stack stack2 own n es own_es values h few p q =
-    let all : length (take own stack) ≡ own = length-take-le own stack few in
-    (omega arith, q ∙ ap reverse (sym (take_front n own stack h)), rw p (values_dropped code held cs stack own n es own_es h))
+pub discard_done : (code : List Instr) (held : Held) (cs : List Caller) (stack stack2 : List Value) (own n : ℕ) (es : List Entered) (own_es : ℕ) →
+    n ≤ own → stack2 ≡ drop n stack → core_of code stack2 (own - n) es own_es held cs ≡
+    record (core_of code stack own es own_es held cs) { values = drop n (take own stack) }
+discard_done code held cs stack stack2 own n es own_es h e = rw e (values_dropped code held cs stack own n es own_es h)
 
-pub too_few_done : (code : List Instr) (held : Held) (cs : List Caller) (stack : List Value) (own n : ℕ) (es : List Entered) (own_es : ℕ) →
-    own < n → Counts stack own es own_es cs → reached.Taken n (core_of code stack own es own_es held cs) None (core_of code stack own es own_es held cs)
-too_few_done code held cs stack own n es own_es h counts =
-    let all : own ≡ length (take own stack) = values_counted stack own es own_es cs counts in (omega arith, refl)
+pub within_own : (stack : List Value) (own n : ℕ) (es : List Entered) (own_es : ℕ) (cs : List Caller) → Counts stack own es own_es cs →
+    n ≤ length (take own stack) → n ≤ own
+within_own stack own n es own_es cs counts h = subst (λ k. n ≤ k) (sym (values_counted stack own es own_es cs counts)) h
 
 -- ---- the top
 

@@ -12,7 +12,8 @@ use Rattle.hph_wasm.specs.Reduction.{arguments}
 use Rattle.hph_wasm.specs.Memory.{stored}
 use Rattle.hph_integers.specs.declared.access.Access.{Access}
 use Rattle.hph_integers.specs.Accesses.{byte_count}
-use Rattle.hph_wstate.specs.Core.{Core, count}
+use Rattle.hph_wstate.specs.declared.layers.Entered as layer
+use Rattle.hph_wstate.specs.Core.{Core, count, after_of}
 
 -- The machine stands before the instructions, in the blocks and the functions where it stood.
 abbrev pub IsWithin : Core → Core → Type 0
@@ -54,6 +55,17 @@ Skipped old false new = (old.labels ≡ []) × (new ≡ old)
 abbrev pub TellsLabel : List Label → ℕ → Option Bool → Type 0
 TellsLabel labels k (Some gives) = (label : Label) × (slice_get labels k ≡ Some label) × (label.arity ≡ count gives)
 TellsLabel labels k None = length labels ≤ k
+
+-- The label is that of a block that was entered: what is behind it, and how many opcodes stand before that.
+abbrev pub LabelIs : List Label → ℕ → Option layer.Entered → Type 0
+LabelIs labels k (Some e) = (label : Label) × (slice_get labels k ≡ Some label) × (label.rest ≡ drop 1 e.here.now) ×
+    (label.after ≡ after_of e.side e.here.now)
+LabelIs labels k None = length labels ≤ k
+
+-- The function that runs.
+abbrev pub FunctionIs : List Frame → Option ℕ → Type 0
+FunctionIs frames (Some f) = (frame : Frame) × (rest : List Frame) × (frames ≡ frame ∷ rest) × (frame.function ≡ f)
+FunctionIs frames None = frames ≡ []
 
 -- Whether the innermost frame gives a value.
 abbrev pub TellsFrame : List Frame → Option Bool → Type 0
@@ -129,8 +141,3 @@ abbrev pub Kept : Bool → Core → Option (Option Value) → Core → Type 0
 Kept gives old (Some kept) new = (count gives ≤ length old.values) × (take (count gives) old.values ≡ option_to_list kept) ×
     (new ≡ record old { values = [] })
 Kept gives old None new = (length old.values < count gives) × (new ≡ old)
-
--- Values that are taken off the stack, the first one first.
-abbrev pub Taken : ℕ → Core → Option (List Value) → Core → Type 0
-Taken n old (Some values) new = (n ≤ length old.values) × (values ≡ reverse (take n old.values)) × (new ≡ record old { values = drop n old.values })
-Taken n old None new = (length old.values < n) × (new ≡ old)

@@ -1,8 +1,9 @@
 //! What a run has at hand between two reductions, without the host.
-ghost use Rattle.std.specs.Prelude.{◌≡◌, [], ◌∷◌, ◌++◌, length, take, drop, reverse, slice_get, ◌<◌, option_to_list, ◌≤◌, MatchOption, OnOk, IfOk};
-ghost use Rattle.hph_wasm.specs.Values.{type_of};
+ghost use Rattle.std.specs.Prelude.{◌≡◌, ◌^◌, true, [], ◌∷◌, ◌++◌, length, map, take, drop, reverse, slice_get, ◌<◌, option_to_list, ◌≤◌, MatchOption, OnOk, IfOk};
+ghost use Rattle.hph_wasm.specs.Values.{number_of, type_of, width};
+ghost use Rattle.hph_wasm.specs.HostAnswers.{FitParams};
 ghost use Rattle.hph_wstate.specs.Core.{label_around, continuation_of, code_behind, Counts};
-ghost use Rattle.hph_wstate.specs.Changes.{Outside, Skipped, Left, TellsLabel, TellsFrame, Entered, LocalSet, GlobalSet, MemoryStored, KindFits, AllFit, Holds, Kept, Taken};
+ghost use Rattle.hph_wstate.specs.Changes.{Outside, Skipped, Left, TellsLabel, LabelIs, TellsFrame, FunctionIs, Entered, LocalSet, GlobalSet, MemoryStored, KindFits, AllFit, Holds, Kept};
 
 use crate::layers as layer;
 use crate::locals::FrameLocals;
@@ -69,6 +70,17 @@ fn kind_of(value: Value) -> ValType
     match value {
         Value::I32(_) => ValType::I32,
         Value::I64(_) => ValType::I64,
+    }
+}
+
+/// The number of a value.
+fn number_of(value: Value) -> u64
+    ensures number { result ≡ number_of value }
+    ensures fits { result < 2 ^ width (type_of value) }
+{
+    match value {
+        Value::I32(n) => u64::from(n),
+        Value::I64(n) => n,
     }
 }
 
@@ -249,6 +261,31 @@ impl<'m> Machine<'m> {
             }
         } else {
             None
+        }
+    }
+
+    /// A label of the function that runs, by its number from the innermost outwards.
+    #[tactic(auto)]
+    pub fn label(&self, k: usize) -> Option<layer::Entered<'m>>
+        ensures { LabelIs (core self.now).labels k result }
+    {
+        if k < self.own_entered {
+            match self.entered.at(k) {
+                Some(label) => Some(*label),
+                None => None,
+            }
+        } else {
+            None
+        }
+    }
+
+    /// The number of the function that runs.
+    pub fn function(&self) -> Option<u32>
+        ensures { FunctionIs (core self.now).frames result }
+    {
+        match self.callers.at(0) {
+            Some(caller) => Some(caller.function),
+            None => None,
         }
     }
 
@@ -455,17 +492,30 @@ impl<'m> Machine<'m> {
         }
     }
 
-    /// Takes so many values off the stack; none where there are too few.
+    /// Takes so many values away.
     #[tactic(auto, using(crate::proofs::Standing::values_dropped, crate::proofs::Standing::counts_dropped))]
-    pub fn take(&mut self, alloc: Global, count: usize) -> Result<Option<Items<Value>>, AllocError>
-        ensures { IfOk result (λ values. Taken count (core self.old) values (core self.new)) }
+    pub fn discard(&mut self, count: usize)
+        requires { count ≤ length (core self.old).values }
+        ensures { core self.new ≡ record (core self.old) { values = drop count (core self.old).values } }
     {
-        if self.own < count {
-            return Ok(None);
-        }
-        let values = self.values.topmost(alloc, count)?;
         self.values.discard(count);
         self.own -= count;
-        Ok(Some(values))
+    }
+
+    /// Copies the numbers of the arguments for these parameters, the first one first.
+    pub fn copy_numbers(&self, params: &[ValType], numbers: &mut Vec<u64>) -> Result<(), AllocError>
+        requires { Holds params.now (core self.now).values true }
+        ensures numbers { OnOk result (numbers.new.items ≡ map number_of (reverse (take (length params.now) (core self.now).values))) }
+        ensures fit { OnOk result (FitParams params.now numbers.new.items) }
+    {
+        numbers.clear();
+        let count = params.len();
+        for k in 0..count {
+            match self.values.at(count - 1 - k) {
+                Some(value) => numbers.push(number_of(*value))?,
+                None => return Err(AllocError),
+            }
+        }
+        Ok(())
     }
 }
