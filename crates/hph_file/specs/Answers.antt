@@ -8,7 +8,13 @@ use Rattle.hph_ast.specs.StatementNesting.{SpellsTree}
 use Rattle.hph_file.specs.declared.fault.FileFault.{FileFault as Fault}
 use Rattle.hph_file.specs.declared.fault.FileFault.TheVariants as fault
 
--- The bytes spell tokens and these the tree, and neither has a refused construct or too many open brackets.
+-- The bytes spell the tokens and these the tree, and neither has a refused construct or too many open brackets.
+pub record IsParsed (bytes : List ℕ) (tokens : List Token) (tree : FileTree) : Type 0 where
+  pub reads : Reads bytes tokens
+  pub spells : SpellsTree tokens tree
+  pub no_construct : tree_construct tree ≡ None
+
+-- the same with tokens that aren't named
 pub record IsRead (bytes : List ℕ) (tree : FileTree) : Type 0 where
   pub tokens : List Token
   pub reads : Reads bytes tokens

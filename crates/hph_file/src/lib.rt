@@ -1,6 +1,6 @@
-//! One file, from its bytes to its tree, or its first fault.
+//! One file, from its bytes to its tokens and their tree, or its first fault.
 //!
-//! `read` puts the lexer, the parser and the search for refused constructs together, in the order in which faults count. The
+//! `front` puts the lexer, the parser and the search for refused constructs together, in the order in which faults count. The
 //! laws in src/laws.rt say that a file has one tree or one first fault, and never both.
 #![tactic(auto)]
 
@@ -10,4 +10,4 @@ mod reading;
 
 pub use fault::FileFault;
 pub use laws::{one_first_fault, one_tree};
-pub use reading::read;
+pub use reading::{Parsed, front, read};

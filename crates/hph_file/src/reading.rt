@@ -1,7 +1,7 @@
 //! The tree of a file.
 ghost use Rattle.std.specs.Prelude.{◌≡◌, ◌<◌, ◌≤◌, ◌^◌, length, IfOk, IfErr};
 ghost use Rattle.hph_ast.specs.Tokens.{SpellsTokens};
-ghost use Rattle.hph_file.specs.Answers.{IsRead, IsFirst};
+ghost use Rattle.hph_file.specs.Answers.{IsParsed, IsRead, IsFirst};
 ghost use Rattle.hph_file.specs.Trees.{IsTree, offset_of};
 
 use crate::fault::FileFault;
@@ -9,12 +9,31 @@ use hph_accept::{token_construct, tree_construct};
 use hph_ast::{FileTree, Token};
 use hph_lex::LexFault;
 use hph_parse::{TreeFault, parse};
+use sqlite_items::Items;
 use std::alloc::Global;
+
+/// What a file's bytes spell.
+#[derive(Drop)]
+pub struct Parsed {
+    pub tokens: Items<Token>,
+    /// What the tokens spell. Its sites have no numbers.
+    pub tree: FileTree,
+}
 
 /// The tree of a file's bytes; or the file's first fault, as `FileFault` says. Memory may run out at any file.
 pub fn read(alloc: Global, bytes: &[u8]) -> Result<FileTree, FileFault>
     requires { length bytes.now < 2 ^ 32 }
     ensures tree { IfOk result (IsRead bytes.now) }
+    ensures fault { IfErr result (IsFirst bytes.now) }
+{
+    let parsed = front(alloc, bytes)?;
+    Ok(parsed.tree)
+}
+
+/// The tokens and the tree of a file's bytes; or the file's first fault.
+pub fn front(alloc: Global, bytes: &[u8]) -> Result<Parsed, FileFault>
+    requires { length bytes.now < 2 ^ 32 }
+    ensures parsed { IfOk result (λ parsed. IsParsed bytes.now parsed.tokens parsed.tree) }
     ensures fault { IfErr result (IsFirst bytes.now) }
 {
     let tokens = tokens(alloc, bytes)?;
@@ -25,7 +44,10 @@ pub fn read(alloc: Global, bytes: &[u8]) -> Result<FileTree, FileFault>
     if let Some((kind, offset)) = tree_construct(alloc, &tree) {
         return Err(FileFault::Construct { kind, offset });
     }
-    Ok(tree)
+    Ok(Parsed {
+        tokens: Items::from_vec(tokens),
+        tree,
+    })
 }
 
 /// The tokens of a file's bytes.

@@ -3,7 +3,7 @@ use Rattle.hph_ast.specs.RefusedTokens.{token_construct}
 use Rattle.hph_file.specs.Answers.{IsFirst}
 use Rattle.hph_file.specs.Trees.{IsTree}
 use Rattle.hph_file.proofs.FirstFaults.{of_token, of_tokens, of_tree, handed_on}
-use Rattle.hph_file.proofs.reading.read.Goals as goal
+use Rattle.hph_file.proofs.reading.front.Goals as goal
 
 pub returns-in-Some-clause-fault : goal.returns-in-Some-clause-fault
 returns-in-Some-clause-fault c =
