@@ -1,1 +1,3 @@
 mod OneMore
+pub mod Sent
+mod Fronts

@@ -2,3 +2,4 @@ pub mod Faults
 pub mod Answers
 pub mod Waves
 pub mod Reading
+pub mod Refusals

@@ -5,9 +5,11 @@
 #![tactic(auto)]
 
 mod fault;
+mod parsing;
 mod reading;
 mod source;
 
 pub use fault::FrontFault;
+pub use parsing::parse_all;
 pub use reading::read_all;
 pub use source::Source;
