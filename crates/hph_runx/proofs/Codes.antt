@@ -52,6 +52,18 @@ pub alone_holds : (P : List Instr → Type 0) (k : Code) → IfSome k P → IfSo
 alone_holds P None p = tt
 alone_holds P (Some a) p = subst P (sym (append-nil a)) p
 
+-- two, with code between them that is always there
+pub between_holds : (P R S : List Instr → Type 0) (k m : Code) (mid : List Instr) → IfSome k P → IfSome m R →
+    ((a c : List Instr) → P a → R c → S (a ++ (mid ++ c))) → IfSome (all (k ∷ plain mid ∷ m ∷ [])) S
+between_holds P R S None m mid p r go = tt
+between_holds P R S (Some a) None mid p r go = tt
+between_holds P R S (Some a) (Some c) mid p r go = subst S (ap (λ c. a ++ (mid ++ c)) (sym (append-nil c))) (go a c p r)
+
+-- where the last is lacking, all is
+pub last_lacks : (S : List Instr → Type 0) (k : Code) (mid : List Instr) → IfSome (all (k ∷ plain mid ∷ None ∷ [])) S
+last_lacks S None mid = tt
+last_lacks S (Some a) mid = tt
+
 -- a list that goes on
 pub more_hold : (P Q R : List Instr → Type 0) (k : Code) (ls : List Code) → IfSome k P → IfSome (all ls) Q →
     ((a b : List Instr) → P a → Q b → R (a ++ b)) → IfSome (all (k ∷ ls)) R

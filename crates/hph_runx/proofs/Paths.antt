@@ -132,20 +132,31 @@ module _ (plan : Plan) (scope : Scope) (planned : Planned plan scope) (d : ℕ) 
   target_path b x l c (behind b1 b2 le base root code rooted based ms ss steps mean value p binds e runs target into) t = refl
 
   module _ {A : Type 0} (leaves : A → List Word) (gives : A → List Item) (b : ℕ) (x : Reading) (l : Lowered) (target : Bool) (p : PathOf b x l target) where
+    -- a row behind the steps and what else is evaluated
+    pub row_with : {B : Type 0} (items : B → List Item) (P : B → Type 0) (by : ℕ) (ys : List Lowered) (mid : Means B) → binds_of ys ≡ [] →
+        ((n : ℕ) (st : State) → Told P (mid n st)) → IfSome (all (codes_of ys)) (λ code. Runs s d Everywhere [] [] no_words items by code mid) →
+        (b4 most : ℕ) → b + (by + b4) ≤ most + 16 → (end : List Instr) (go : Base → List PathStep → B → Means A) →
+        ((item : Item) (base : Base) (steps : List PathStep) (v : B) → (target ≡ true → is_place item ≡ true) → length steps ≡ length l.steps → P v →
+        Runs s d (IsBase s item base) [] (items v ++ (stacked a_step steps ++ (item ∷ []))) leaves gives b4 end (go base steps v)) →
+        IfSome (all (along l ys ∷ plain end ∷ [])) (λ code. Runs s d Everywhere [] [] leaves gives most code
+        (bind x.base (λ base. bind x.steps (λ steps. bind mid (go base steps)))))
+    row_with items P by ys mid e told q b4 most few end go runs =
+        subst (λ k. IfSome (all (k ∷ plain end ∷ [])) (λ code. Runs s d Everywhere [] [] leaves gives most code (bind x.base (λ base. bind x.steps (λ steps. bind mid (go base steps))))))
+        (sym (along_is l ys p.steps.binds e))
+        (subst (λ steps. IfSome (all (all (l.base ∷ all (map step_code l.steps) ∷ all (codes_of ys) ∷ []) ∷ plain end ∷ []))
+        (λ code. Runs s d Everywhere [] [] leaves gives most code (bind x.base (λ base. bind steps (λ steps. bind mid (go base steps)))))) (sym p.same)
+        (holds_more _ _ (all (all (l.base ∷ all (map step_code l.steps) ∷ all (codes_of ys) ∷ []) ∷ plain end ∷ []))
+        (along_runs leaves gives items P p.b1 p.b2 by b4 x.base l.root l.base p.rooted p.based p.means l.steps p.steps mid (all (codes_of ys)) told q end go
+        (λ item base steps v placed long known. runs item base steps v (λ e. placed (p.is_rooted e)) long known))
+        (λ code runs. more s d Everywhere [] [] leaves gives ((p.b1 + 3) + (p.b2 + (by + b4))) most (omega (arith, p.few, few)) runs)))
+
     -- a row behind the steps alone
     pub row_runs : (b4 : ℕ) → b4 ≤ 16 → (end : List Instr) (go : Base → List PathStep → Means A) →
         ((item : Item) (base : Base) (steps : List PathStep) → (target ≡ true → is_place item ≡ true) → length steps ≡ length l.steps →
         Runs s d (IsBase s item base) [] (stacked a_step steps ++ (item ∷ [])) leaves gives b4 end (go base steps)) →
-        IfSome (all (along l [] ∷ plain end ∷ [])) (λ code. Runs s d Everywhere [] [] leaves gives b code (bind x.base (λ base. bind x.steps (go base))))
-    row_runs b4 few end go runs =
-        subst (λ k. IfSome (all (k ∷ plain end ∷ [])) (λ code. Runs s d Everywhere [] [] leaves gives b code (bind x.base (λ base. bind x.steps (go base)))))
-        (sym (along_is l [] p.steps.binds refl))
-        (subst (λ steps. IfSome (all (all (l.base ∷ all (map step_code l.steps) ∷ Some [] ∷ []) ∷ plain end ∷ []))
-        (λ code. Runs s d Everywhere [] [] leaves gives b code (bind x.base (λ base. bind steps (go base))))) (sym p.same)
-        (holds_more _ _ (all (all (l.base ∷ all (map step_code l.steps) ∷ Some [] ∷ []) ∷ plain end ∷ []))
-        (along_runs leaves gives (λ (u : Unit {0}). []) (λ u. Unit {0}) p.b1 p.b2 0 b4 x.base l.root l.base p.rooted p.based p.means l.steps p.steps nothing (Some []) (λ n st. tt)
-        (at_once s d Everywhere no_words no_items tt) end (λ base steps u. go base steps) (λ item base steps u placed long known. runs item base steps (λ e. placed (p.is_rooted e)) long))
-        (λ code runs. more s d Everywhere [] [] leaves gives ((p.b1 + 3) + (p.b2 + (0 + b4))) b (omega (arith, p.few, few)) runs)))
+        IfSome (all (along l [] ∷ plain end ∷ [])) (λ code. Runs s d Everywhere [] [] leaves gives (b + 0) code (bind x.base (λ base. bind x.steps (go base))))
+    row_runs b4 few end go runs = row_with (λ (u : Unit {0}). []) (λ u. Unit {0}) 0 [] nothing refl (λ n st. tt) (at_once s d Everywhere no_words no_items tt) b4 (b + 0) (omega (arith, few)) end
+        (λ base steps u. go base steps) (λ item base steps u placed long known. runs item base steps placed long)
 
     -- a row behind the steps and a value
     pub row_with_value : (by : ℕ) (y : Lowered) (m : Means Value) → y.binds ≡ [] → IfSome y.value (λ code. Values s d Everywhere by code m) →
@@ -154,13 +165,5 @@ module _ (plan : Plan) (scope : Scope) (planned : Planned plan scope) (d : ℕ) 
         Runs s d (IsBase s item base) [] (a_value v ∷ (stacked a_step steps ++ (item ∷ []))) leaves gives b4 end (go base steps v)) →
         IfSome (all (along l (y ∷ []) ∷ plain end ∷ [])) (λ code. Runs s d Everywhere [] [] leaves gives (b + by) code
         (bind x.base (λ base. bind x.steps (λ steps. bind m (go base steps)))))
-    row_with_value by y m e q b4 few end go runs =
-        subst (λ k. IfSome (all (k ∷ plain end ∷ [])) (λ code. Runs s d Everywhere [] [] leaves gives (b + by) code (bind x.base (λ base. bind x.steps (λ steps. bind m (go base steps))))))
-        (sym (along_is l (y ∷ []) p.steps.binds (ap (λ binds. binds ++ []) e)))
-        (subst (λ steps. IfSome (all (all (l.base ∷ all (map step_code l.steps) ∷ all (y.value ∷ []) ∷ []) ∷ plain end ∷ []))
-        (λ code. Runs s d Everywhere [] [] leaves gives (b + by) code (bind x.base (λ base. bind steps (λ steps. bind m (go base steps)))))) (sym p.same)
-        (holds_more _ _ (all (all (l.base ∷ all (map step_code l.steps) ∷ all (y.value ∷ []) ∷ []) ∷ plain end ∷ []))
-        (along_runs leaves gives one_value (λ v. Unit {0}) p.b1 p.b2 by b4 x.base l.root l.base p.rooted p.based p.means l.steps p.steps m (all (y.value ∷ []))
-        (λ n st. untold (m n st)) (alone_holds (λ code. Values s d Everywhere by code m) y.value q) end go
-        (λ item base steps v placed long known. runs item base steps v (λ e. placed (p.is_rooted e)) long))
-        (λ code runs. more s d Everywhere [] [] leaves gives ((p.b1 + 3) + (p.b2 + (by + b4))) (b + by) (omega (arith, p.few, few)) runs)))
+    row_with_value by y m e q b4 few end go runs = row_with one_value (λ v. Unit {0}) by (y ∷ []) m (ap (λ binds. binds ++ []) e) (λ n st. untold (m n st))
+        (alone_holds (λ code. Values s d Everywhere by code m) y.value q) b4 (b + by) (omega (arith, few)) end go (λ item base steps v placed long known. runs item base steps v placed long)
